@@ -1,0 +1,14 @@
+pub mod Places
+pub mod Writes
+pub mod Sums
+pub mod RowCombinations
+pub mod ColumnCombinations
+pub mod Steps
+pub mod Clearing
+pub mod Turns
+pub mod Progress
+pub mod Reading
+pub mod Columns
+pub mod Solving
+pub mod Alternatives
+pub mod ZerosAndOnes

@@ -1,0 +1,10 @@
+pub mod Field
+pub mod Bools
+pub mod Bit
+pub mod Four
+pub mod Linear
+pub mod Grid
+pub mod Reduced
+pub mod Held
+pub mod ZeroOne
+pub mod Theorems

@@ -1,0 +1,11 @@
+pub mod Flags
+pub mod Same
+pub mod Upto
+pub mod Numbering
+pub mod Reading
+pub mod Exponents
+pub mod Bounds
+pub mod Corners
+pub mod Roots
+pub mod Kept
+pub mod Added

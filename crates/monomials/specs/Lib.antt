@@ -1,0 +1,3 @@
+pub mod Choose
+pub mod Order
+pub mod Reach

@@ -1,0 +1,16 @@
+pub mod Lists
+pub mod Grounds
+pub mod States
+pub mod Edges
+pub mod Sizing
+pub mod Bytes
+pub mod Multipliers
+pub mod Columns
+pub mod Terms
+pub mod Grids
+pub mod Filling
+pub mod Deciding
+pub mod Fitting
+pub mod Seeking
+pub mod Raising
+pub mod Steps

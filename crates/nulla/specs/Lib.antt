@@ -1,0 +1,10 @@
+pub mod Refusals
+pub mod Replies
+pub mod State
+pub mod Sizes
+pub mod Measures
+pub mod Certificate
+pub mod Written
+pub mod Matrix
+pub mod Outcome
+pub mod Steps

@@ -1,0 +1,7 @@
+mod Spelled
+mod Overwriting
+mod Splits
+mod Shortness
+mod Turns
+mod Counting
+mod Once

@@ -1,0 +1,5 @@
+pub mod Lines
+pub mod Spelling
+pub mod Rendering
+pub mod Solving
+pub mod Plans

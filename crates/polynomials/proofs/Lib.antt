@@ -1,0 +1,9 @@
+pub mod Pairs
+pub mod Coefficients
+pub mod Values
+pub mod Ranks
+pub mod Matrices
+pub mod Certificates
+pub mod Images
+pub mod Entries
+pub mod Independence
