@@ -14,3 +14,4 @@ pub mod Fitting
 pub mod Seeking
 pub mod Raising
 pub mod Steps
+pub mod Once

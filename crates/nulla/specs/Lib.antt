@@ -8,3 +8,4 @@ pub mod Written
 pub mod Matrix
 pub mod Outcome
 pub mod Steps
+pub mod Theorems

@@ -7,7 +7,7 @@ use mathlib.Core.List.{List, [], _∷_, _++_}
 use mathlib.Core.Logic.{⊎-elim}
 use lib.Chars.{codes}
 use lib.Dec.{eqb}
-use lib.ListN.{length, getD}
+use lib.ListN.{length}
 use Rattle.std.specs.Written.{decimal}
 use Rattle.std.proofs.shelf.Decimals.{decimal-digit}
 use Rattle.std.proofs.shelf.Lists.{append-assoc}
@@ -19,7 +19,7 @@ use Rattle.nulla.specs.State.{State}
 use Rattle.plan.specs.Lines.{linesOf}
 use Rattle.plan.specs.Rendering.{numbered, lineOf, Short}
 use Rattle.plan.specs.Solving.{Store}
-use Rattle.plan.specs.Plans.{Answered, none, next, Written, too-long, in-turn, Answered-each}
+use Rattle.plan.specs.Plans.{Answered, none, next, too-long, in-turn, Answered-each}
 use Rattle.plan.proofs.Overwriting.{decimal-two}
 use Rattle.plan.proofs.Splits.{Unbroken, lines-ended}
 use Rattle.plan.proofs.Turns.{turn-short}

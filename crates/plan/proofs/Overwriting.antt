@@ -1,5 +1,5 @@
 -- Bytes written over a text, one part after the other. Assumes nothing.
-use Prim.Native.Nat.{ℕ, suc, _+_, _-_, _/_, _%_, _≤_, _<_, min}
+use Prim.Native.Nat.{ℕ, _+_, _-_, _/_, _%_, _≤_, _<_}
 use native.Mathlib.Omega.{arith}
 use mathlib.Core.Path.{_≡_, refl, sym, _∙_, ap, subst}
 use mathlib.Core.List.{List, [], _∷_, _++_}
@@ -7,7 +7,7 @@ use lib.ListN.{length, take, drop}
 use borrow.Rule.Slice.PartMut.{putMid}
 use Rattle.std.specs.Written.{decimal}
 use Rattle.std.proofs.shelf.Decimals.{decimal-digit, decimal-step, length-decimal-le}
-use Rattle.std.proofs.shelf.Lists.{append-assoc, length-append, length-take, length-drop, take-at, drop-at, drop-drop, drop-append-le}
+use Rattle.std.proofs.shelf.Lists.{append-assoc, length-append, length-take, take-at, drop-at, drop-drop}
 use Rattle.plan.specs.Rendering.{numbered, overwritten, Wrote}
 
 -- A copy into a part of a text is such a write.

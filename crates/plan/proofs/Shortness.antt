@@ -1,5 +1,5 @@
 -- The solver's replies show small numbers, so their answer lines are short. Assumes nothing.
-use Prim.Native.Nat.{ℕ, _≤_, _<_}
+use Prim.Native.Nat.{_<_}
 use native.Mathlib.Omega.{arith}
 use Rattle.nulla.specs.declared.call.Call.{Call}
 use Rattle.nulla.specs.declared.reply.Reply.{Reply}

@@ -1,19 +1,17 @@
 -- A line that names two numbers is cut in one way only, at its first space after the letter's. Assumes nothing.
-use Prim.Native.Nat.{ℕ, suc, _+_, _*_, _-_, _^_, _≤_, _<_, max}
+use Prim.Native.Nat.{ℕ, _+_, _-_, _^_, _≤_, _<_}
 use native.Mathlib.Omega.{arith}
 use native.Mathlib.Nat.{pow-suc}
 use native.Mathlib.Numerals.{add-one}
 use mathlib.Core.Path.{_≡_, refl, sym, _∙_, ap, subst}
 use mathlib.Core.List.{List, [], _∷_, _++_}
-use mathlib.Core.Logic.{_⊎_, inl, inr, ⊎-elim}
+use mathlib.Core.Logic.{⊎-elim}
 use lib.ListN.{length, take, drop, getD}
-use Rattle.std.specs.Iters.{folded}
-use Rattle.std.proofs.shelf.Lists.{length-append, length-take-le, getD-at, getD-append-left, getD-append-right, take-at, take-all, drop-at, drop-more, drop-drop, take-append-drop, length-drop, append-assoc, drop-all}
+use Rattle.std.proofs.shelf.Lists.{length-append, getD-at, getD-append-left, getD-append-right, take-at, drop-at, drop-more, drop-drop, take-append-drop, append-assoc, drop-all}
 use Rattle.std.proofs.shelf.Tests.{cases-lt, cases-order}
-use Rattle.nulla.specs.declared.call.Call.{Call}
 use Rattle.nulla.specs.declared.call.Call.the-variants.{OpenVertex, AddEdge, RemoveEdge, Raise}
 use Rattle.plan.specs.Lines.{Found}
-use Rattle.plan.specs.Spelling.{Digit, extended, Decimal, Names, Spells, opens, adds, removes, raises, Malformed, Spelled-once}
+use Rattle.plan.specs.Spelling.{extended, Decimal, Names, opens, adds, removes, raises, Malformed, Spelled-once}
 
 -- One digit more keeps the number below the next power of ten.
 pub extended-below : (v d i : ℕ) → v < 10 ^ i → d < 58 → extended v d < 10 ^ (i + 1)

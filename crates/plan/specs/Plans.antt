@@ -19,7 +19,7 @@ use Rattle.nulla.specs.State.{State, fresh}
 use Rattle.plan.specs.Lines.{linesOf}
 use Rattle.plan.specs.Spelling.{Spells, Malformed}
 use Rattle.plan.specs.Rendering.{lineOf}
-use Rattle.plan.specs.Solving.{Store, Made, Made-once, Blank}
+use Rattle.plan.specs.Solving.{Store, Made, Blank}
 
 -- One line, from a state and memory, with its reply, to a state and memory.
 pub data Turn (line : List ℕ) : State → Store → Reply → State → Store → Type 0 where
@@ -63,7 +63,7 @@ abbrev pub Answered-each : Type 0
 Answered-each =
     (lent left : Store) (plan text : List ℕ) → length plan ≤ 4096 → Written lent plan text left → length (linesOf text) ≡ length (linesOf plan)
 
--- If each call has one outcome, a plan has one text.
+-- A plan has one text.
 abbrev pub Written-once : Type 0
 Written-once =
-    Made-once → (lent left left′ : Store) (plan text text′ : List ℕ) → Written lent plan text left → Written lent plan text′ left′ → text ≡ text′
+    (lent left left′ : Store) (plan text text′ : List ℕ) → Written lent plan text left → Written lent plan text′ left′ → text ≡ text′

@@ -27,14 +27,3 @@ Made call s lent reply t left = Step bit-ops (plain (bit-ops .one)) call s lent 
 pub record Blank (store : Store) : Type 0 where
   pub table : store .table ≡ replicate 65536 (bit-ops .zero)
   pub certificate : store .certificate ≡ replicate 16384 0
-
--- Two outcomes of a call are the same.
-pub record Outcome (r q : Reply) (t u : State) (n o : Store) : Type 0 where
-  pub reply : r ≡ q
-  pub end : t ≡ u
-  pub left : n ≡ o
-
--- Each call has one outcome: its reply, the state after it and what it leaves in memory follow from what it is made on.
-abbrev pub Made-once : Type 0
-Made-once =
-    (call : Call) (s t u : State) (m n o : Store) (r q : Reply) → Made call s m r t n → Made call s m q u o → Outcome r q t u n o

@@ -2,7 +2,7 @@
 -- numbers of one to three decimal digits, and nothing else on the line. Assumes nothing.
 use Prim.Native.Nat.{ℕ, _+_, _*_, _-_, _≤_, _<_}
 use mathlib.Core.Path.{_≡_}
-use mathlib.Core.List.{List, [], _∷_, _++_}
+use mathlib.Core.List.{List, _∷_, _++_}
 use lib.Chars.{codes}
 use lib.ListN.{length, getD}
 use Rattle.std.specs.Iters.{folded}

@@ -148,7 +148,7 @@ pub fn answers_stand() -> u8
     0
 }
 
-/// If each call has one outcome, a plan has one text.
+/// A plan has one text.
 pub fn text_stands() -> u8
     ensures { λ _. ⌜ Written-once ⌝ }
 {

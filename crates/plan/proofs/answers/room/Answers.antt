@@ -1,7 +1,6 @@
 use native.Mathlib.Omega.{arith}
-use mathlib.Core.Path.{_≡_, ap}
+use mathlib.Core.Path.{ap}
 use lib.ListN.{length}
-use Rattle.plan.specs.Lines.{linesOf}
 use Rattle.plan.proofs.Splits.{lines-counted, lines-over, place-within, room-short}
 use Rattle.plan.proofs.answers.room.Needs as need
 

@@ -1,8 +1,7 @@
-use Prim.Native.Nat.{_<_}
 use native.Mathlib.Omega.{arith}
 use mathlib.Core.Path.{_∙_, ap, sym}
 use borrow.Author.Count.{below-more}
-use lib.ListN.{length, getD}
+use lib.ListN.{getD}
 use Rattle.std.specs.Iters.{folded}
 use Rattle.std.proofs.shelf.Sums.{folded-more}
 use Rattle.std.proofs.shelf.Lists.{take-all}

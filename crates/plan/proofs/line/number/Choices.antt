@@ -1,6 +1,6 @@
-use Prim.Native.Nat.{ℕ, _^_, _≤_, _<_}
+use Prim.Native.Nat.{ℕ, _^_, _<_}
 use mathlib.Core.Path.{_≡_}
-use lib.ListN.{length, take, getD}
+use lib.ListN.{take, getD}
 use Rattle.std.specs.Iters.{folded}
 use Rattle.plan.specs.Spelling.{Digit, extended}
 use Rattle.plan.proofs.line.number.Given as given

@@ -1,4 +1,3 @@
-use native.Mathlib.Omega.{arith}
 use mathlib.Core.Path.{sym, subst}
 use Rattle.plan.specs.Spelling.{Names, Parsed, adds, removes}
 use Rattle.plan.proofs.Spelled.{malformed-by, malformed-empty, malformed-letter, only}
