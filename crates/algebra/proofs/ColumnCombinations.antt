@@ -1,12 +1,12 @@
 -- Combinations of columns: what combinations of the rows keep, and at most one representation by independent columns.
-use mathlib.Core.Path.{_≡_, refl, sym, ap, subst, _∙_}
+use mathlib.Core.Path.{_≡_, sym, ap, _∙_}
 use mathlib.Core.Logic.{_⊎_, inl, inr}
-use Prim.Native.Nat.{ℕ, zero, suc, _+_, _<_, _≤_}
+use Prim.Native.Nat.{ℕ, zero, suc, _<_}
 use native.Mathlib.Omega.{arith}
 use Rattle.std.proofs.shelf.Tests.{cases-eq}
 use Rattle.algebra.specs.Field.{Ops, Laws}
-use Rattle.algebra.specs.Linear.{sum, Within, Represents, ColumnComb, Dependent, OnIndependent}
-use Rattle.algebra.proofs.Sums.{sum-same, sum-zero, sum-add, sum-mul, sum-swap, add-mul, zero-mul, zero-add, one-mul, add-back}
+use Rattle.algebra.specs.Linear.{sum, Within, Represents, Dependent, OnIndependent}
+use Rattle.algebra.proofs.Sums.{sum-same, sum-add, sum-mul, sum-swap, add-mul, zero-mul, zero-add, one-mul, add-back}
 
 module _ {F : Type 0} {o : Ops F} (laws : Laws o) where
   -- the other factor first

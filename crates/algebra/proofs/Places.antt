@@ -1,6 +1,6 @@
 -- Where the cells of two rows lie, and what a write to one cell leaves.
-use mathlib.Core.Path.{_≡_, sym, ap, subst, _∙_}
-use mathlib.Core.Logic.{_⊎_, inl, inr, _≢_}
+use mathlib.Core.Path.{_≡_, ap, subst}
+use mathlib.Core.Logic.{inl, inr}
 use mathlib.Core.List.{List}
 use Prim.Native.Nat.{ℕ, _+_, _*_, _/_, _%_, _<_, _≤_}
 use native.Mathlib.Nat.{mul-le-mul-right, add-mul, one-mul, div-add-mod', mod-lt}
@@ -44,6 +44,7 @@ kept-past o rows cols xs ys h p k l =
 pub cell-in : (r c rows cols n : ℕ) → r < rows → c < cols → rows * cols ≤ n → r * cols + c < n
 cell-in r c rows cols n h l k = omega (arith, row-before r rows cols h)
 
+-- what a write to the cell of row r and column c leaves
 module _ {F : Type 0} (o : Ops F) (cols : ℕ) (xs : List F) (v : F) (r c : ℕ) (h : c < cols) where
   pub cell-set-same : r * cols + c < length xs → cell o (set xs (r * cols + c) v) cols r c ≡ v
   cell-set-same l = getD-set-same xs (r * cols + c) v (o .zero) l

@@ -1,14 +1,14 @@
 -- The loop of elimination, one column at a time.
-use mathlib.Core.Path.{_≡_, refl, sym, ap, subst, _∙_}
+use mathlib.Core.Path.{_≡_, refl, subst, _∙_}
 use mathlib.Core.Bool.{cond}
 use mathlib.Core.List.{List}
-use Prim.Native.Nat.{ℕ, _+_, _*_, _<_, _≤_}
+use Prim.Native.Nat.{ℕ, _+_, _<_, _≤_}
 use native.Mathlib.Omega.{arith}
 use lib.Dec.{eqb}
-use lib.ListN.{length, getD}
+use lib.ListN.{length}
 use Rattle.std.proofs.shelf.Tests.{eq-eqb, ne-eqb, cond-true, cond-false}
 use Rattle.algebra.specs.Field.{Ops, Laws}
-use Rattle.algebra.specs.Grid.{cell, Kept}
+use Rattle.algebra.specs.Grid.{cell}
 use Rattle.algebra.specs.Linear.{Equivalent}
 use Rattle.algebra.specs.Reduced.{Pivoted, Reduced, Eliminated}
 use Rattle.algebra.proofs.Places.{kept-past}

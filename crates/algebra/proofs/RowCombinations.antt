@@ -1,9 +1,7 @@
 -- Combinations of rows.
-use mathlib.Core.Path.{_≡_, refl, sym, ap, _∙_}
-use mathlib.Core.Logic.{_⊎_, inl, inr}
-use Prim.Native.Nat.{ℕ, zero, suc, _+_, _<_, _≤_}
+use mathlib.Core.Path.{_≡_, sym, ap, _∙_}
+use Prim.Native.Nat.{ℕ, zero, suc, _<_}
 use native.Mathlib.Omega.{arith}
-use Rattle.std.proofs.shelf.Tests.{cases-eq}
 use Rattle.algebra.specs.Field.{Ops, Laws}
 use Rattle.algebra.specs.Linear.{sum, RowComb, Within}
 use Rattle.algebra.proofs.Sums.{sum-same, sum-add, sum-mul, sum-zero, sum-unit, unit, add-mul, zero-mul}

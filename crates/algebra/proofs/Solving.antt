@@ -1,17 +1,15 @@
 -- What reading the last column of eliminated rows says of the columns as they were.
-use mathlib.Core.Path.{_≡_, refl, sym, ap, subst, _∙_}
-use mathlib.Core.Logic.{_⊎_, inl, inr}
-use mathlib.Core.Bool.{Bool, true, false}
+use mathlib.Core.Path.{_≡_, sym, ap, subst, _∙_}
+use mathlib.Core.Logic.{inl, inr}
+use mathlib.Core.Bool.{Bool, true}
 use mathlib.Core.List.{List}
-use Prim.Native.Nat.{ℕ, _+_, _-_, _*_, _<_, _≤_}
+use Prim.Native.Nat.{ℕ, _-_, _<_}
 use native.Mathlib.Omega.{arith}
 use lib.ListN.{length}
 use Rattle.algebra.specs.Field.{Ops, Laws}
 use Rattle.algebra.specs.Grid.{cell, Fits}
-use Rattle.algebra.specs.Linear.{sum, Represents, ColumnComb, Dependent, OnIndependent}
-use Rattle.algebra.specs.Reduced.{Reduced, Eliminated, Read, Solved}
-use Rattle.algebra.specs.Held.{held, Roomy, Held}
-use Rattle.algebra.specs.declared.elimination.grid.Grid.{Grid}
+use Rattle.algebra.specs.Linear.{Represents, Dependent, OnIndependent}
+use Rattle.algebra.specs.Reduced.{Eliminated, Read, Solved}
 use Rattle.algebra.proofs.Places.{row-before}
 use Rattle.algebra.proofs.Sums.{sum-same}
 use Rattle.algebra.proofs.ColumnCombinations.{represents-within, unique}
@@ -76,28 +74,3 @@ module _ {F : Type 0} {o : Ops F} (laws : Laws o) (rows cols rank : ℕ) (xs ys 
         beyond = λ k h. p .others .beyond k (omega (arith, row-before 0 rows cols (fits .some-row))) ∙ e .kept .beyond k h;
       };
     }
-
--- a grid that is as it was but for its cells has room where it had
-pub roomy-after : {F : Type 0} (g h : Grid F) → Held g h → length (held h) ≡ length (held g) → Roomy g → Roomy h
-roomy-after g h s l r =
-    subst (λ (n : ℕ). Fits (h .rows) (h .cols) n) (sym l)
-    (subst (λ (n : ℕ). Fits (h .rows) n (length (held g))) (sym (s .cols)) (subst (λ (n : ℕ). Fits n (g .cols) (length (held g))) (sym (s .rows)) r))
-
--- elimination, and then reading
-pub solved-after : {F : Type 0} {o : Ops F} (laws : Laws o) (g h k : Grid F) (rank : ℕ) (answer : Bool) → Held g h → Roomy g
-    → Eliminated o (g .rows) (g .cols) rank (held g) (held h)
-    → (Roomy h → (pivot : ℕ → ℕ) → Reduced o (h .rows) (h .cols) rank pivot (cell o (held h) (h .cols)) → Read o (h .rows) (h .cols) rank pivot (held h) (held k) answer)
-    → Solved o (g .rows) (g .cols) (held g) (held k) answer
-solved-after {o = o} laws g h k rank answer s room e read =
-    let Says : ℕ → ℕ → Type 0 = λ rows cols. (pivot : ℕ → ℕ) → Reduced o rows cols rank pivot (cell o (held h) cols) → Read o rows cols rank pivot (held h) (held k) answer in
-    let says : Says (g .rows) (g .cols) =
-    subst (λ (n : ℕ). Says n (g .cols)) (s .rows) (subst (λ (n : ℕ). Says (h .rows) n) (s .cols) (read (roomy-after g h s (e .kept .long) room))) in
-    solved laws (g .rows) (g .cols) rank (held g) (held h) e (held k) answer room (says (e .pivot) (e .reduced))
-
--- neither does anything where there is no room
-pub refused-after : {F : Type 0} (g h k : Grid F) (rank : ℕ) (answer : Bool) → Held g h → (Roomy g → ⊥) → held h ≡ held g
-    → ((Roomy h → rank ≤ h .rows → ⊥) → (answer ≡ false) × (held k ≡ held h)) → (answer ≡ false) × (held k ≡ held g)
-refused-after g h k rank answer s n e p =
-    let back : Held h g = record { lent = sym (s .lent); rows = sym (s .rows); cols = sym (s .cols) } in
-    let q = p (λ r l. n (roomy-after h g back (ap length (sym e)) r)) in
-    (q .0, q .1 ∙ e)

@@ -1,14 +1,13 @@
 -- A turn of elimination, at one column.
-use mathlib.Core.Path.{_≡_, refl, sym, ap, subst, _∙_}
-use mathlib.Core.Logic.{_⊎_, inl, inr}
+use mathlib.Core.Path.{_≡_, sym, ap, subst, _∙_}
+use mathlib.Core.Logic.{inl, inr}
 use mathlib.Core.List.{List}
-use Prim.Native.Nat.{ℕ, _+_, _*_, _<_, _≤_}
+use Prim.Native.Nat.{ℕ, _+_, _<_, _≤_}
 use native.Mathlib.Omega.{arith}
 use borrow.Author.Count.{below-more}
-use Rattle.std.proofs.shelf.Tests.{cases-eq, cases-lt}
+use Rattle.std.proofs.shelf.Tests.{cases-eq}
 use Rattle.algebra.specs.Field.{Ops, Laws}
 use Rattle.algebra.specs.Grid.{cell, Swapped, Scaled}
-use Rattle.algebra.specs.Linear.{Equivalent}
 use Rattle.algebra.specs.Reduced.{Cleared, Pivoted, Reduced}
 use Rattle.algebra.proofs.Sums.{mul-zero}
 use Rattle.algebra.proofs.Steps.{swapped-equivalent, scaled-equivalent, equivalent-trans}
@@ -21,6 +20,14 @@ module _ {F : Type 0} {o : Ops F} (laws : Laws o) (rows cols rank col : ℕ) whe
       → (c : ℕ) → c < col → cell o vs cols rank c ≡ o .zero
   blank-scaled row k xs us vs hc low high blank s t c l =
       t .there c (omega arith) ∙ ap (o .mul k) (s .first c (omega arith) ∙ blank row c low high l) ∙ mul-zero laws k
+
+  -- and has one in the column
+  pub one-scaled : (row : ℕ) (k : F) (xs us vs : List F) → col < cols → (cell o xs cols row col ≡ o .zero → ⊥)
+      → Swapped o cols rank row xs us → k ≡ o .inv (cell o us cols rank col) → Scaled o cols rank k us vs
+      → cell o vs cols rank col ≡ o .one
+  one-scaled row k xs us vs hc some s inv t =
+      let x = cell o us cols rank col in
+      t .there col hc ∙ laws .mul-comm k x ∙ ap (o .mul x) inv ∙ laws .mul-inv x (λ z. some (sym (s .first col hc) ∙ z))
 
   -- the rows from rank on are zero left of the column
   pub pivoted : (row : ℕ) (k : F) (xs us vs ys : List F) → col < cols → rank ≤ row → row < rows
@@ -48,7 +55,7 @@ module _ {F : Type 0} {o : Ops F} (laws : Laws o) (rows cols rank col : ℕ) whe
       ] in
       record {
         inside = omega arith;
-        one = u .own col hc ∙ t .there col hc ∙ laws .mul-comm k (cell o us cols rank col) ∙ inverse;
+        one = u .own col hc ∙ one-scaled row k xs us vs hc some s inv t;
         zeros = u .zeros;
         kept = λ r c hr l. u .kept r c (omega arith) (zero-then c l) ∙ scaled r c l ∙ swapped r c hr l;
         beyond = λ r c h l. u .beyond r c h l ∙ t .others r c (λ e. omega arith) l ∙ s .others r c (λ e. omega arith) (λ e. omega arith) l;

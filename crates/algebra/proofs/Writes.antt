@@ -1,6 +1,6 @@
 -- The loops that write one row or exchange two, one cell at a time.
 use mathlib.Core.Path.{_≡_, refl, sym, ap, _∙_}
-use mathlib.Core.Logic.{_⊎_, inl, inr, _≢_}
+use mathlib.Core.Logic.{_≢_}
 use mathlib.Core.List.{List}
 use Prim.Native.Nat.{ℕ, _+_, _*_, _<_, _≤_}
 use native.Mathlib.Omega.{arith}
@@ -8,7 +8,7 @@ use lib.ListN.{length, getD, set, length-set}
 use lib.Seq.{getD-set-same, getD-set-other}
 use borrow.Author.Count.{below-more}
 use Rattle.algebra.specs.Field.{Ops, Laws}
-use Rattle.algebra.specs.Grid.{cell, Kept, Blank, Added}
+use Rattle.algebra.specs.Grid.{cell, Blank, Added}
 use Rattle.algebra.proofs.Sums.{mul-zero, zero-mul}
 use Rattle.algebra.proofs.Places.{rows-apart, columns-apart, cell-set-same, cell-set-row, cell-set-column}
 
@@ -18,7 +18,8 @@ pub record Part {F : Type 0} (o : Ops F) (cols row n : ℕ) (new : ℕ → F) (x
   pub left : (c : ℕ) → n ≤ c → c < cols → cell o ys cols row c ≡ cell o xs cols row c
   pub others : (r c : ℕ) → (r ≡ row → ⊥) → c < cols → cell o ys cols r c ≡ cell o xs cols r c
 
-pub part-more : {F : Type 0} (o : Ops F) (cols row : ℕ) (new : ℕ → F) (xs : List F) (n : ℕ) (ys : List F) (v : F) → n < cols → row * cols + cols ≤ length ys → Part o cols row n new xs ys → v ≡ new n → Part o cols row (n + 1) new xs (set ys (row * cols + n) v)
+pub part-more : {F : Type 0} (o : Ops F) (cols row : ℕ) (new : ℕ → F) (xs : List F) (n : ℕ) (ys : List F) (v : F)
+    → n < cols → row * cols + cols ≤ length ys → Part o cols row n new xs ys → v ≡ new n → Part o cols row (n + 1) new xs (set ys (row * cols + n) v)
 part-more o cols row new xs n ys v h fits p e =
     record {
       done = below-more _ _
@@ -38,10 +39,6 @@ part-start {o = o} laws cols first from to factor xs blank =
       left = λ c l k. refl;
       others = λ r c q k. refl;
     }
-
-pub part-all : {F : Type 0} (o : Ops F) (cols from to n : ℕ) (factor : F) (xs ys : List F) → n ≡ cols
-    → Part o cols to n (λ c. o .add (cell o xs cols to c) (o .mul factor (cell o xs cols from c))) xs ys → Added o cols from to factor xs ys
-part-all o cols from to n factor xs ys e p = record { there = λ c h. p .done c (omega arith); others = p .others }
 
 -- zero times a row changes nothing
 pub added-none : {F : Type 0} {o : Ops F} (laws : Laws o) (cols from to : ℕ) (factor : F) (xs : List F) → factor ≡ o .zero → Added o cols from to factor xs xs

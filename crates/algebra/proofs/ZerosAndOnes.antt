@@ -1,14 +1,13 @@
 -- Zeros and ones: from the bits to any field, back by a witness, and so between any two fields.
 use mathlib.Core.Path.{_≡_, refl, sym, ap, _∙_}
-use mathlib.Core.Logic.{_⊎_, inl, inr}
-use mathlib.Core.Bool.{Bool, true, false, not, _&&_, cond}
+use mathlib.Core.Logic.{inl, inr}
+use mathlib.Core.Bool.{Bool, true, false, _&&_}
 use Prim.Native.Nat.{ℕ, zero, suc, _<_}
-use native.Mathlib.Omega.{arith}
 use Rattle.algebra.specs.declared.bit.Bit.{Bit}
 use Rattle.algebra.specs.Field.{Ops, Laws}
 use Rattle.algebra.specs.Bools.{xor}
 use Rattle.algebra.specs.Bit.{bit-ops, bit-laws}
-use Rattle.algebra.specs.Linear.{sum, dot, Represents, ColumnComb, Dependent, OnIndependent, Witness}
+use Rattle.algebra.specs.Linear.{sum, Represents, ColumnComb, OnIndependent, Witness}
 use Rattle.algebra.specs.ZeroOne.{digit, digits, Agree}
 use Rattle.algebra.proofs.Sums.{sum-same, zero-add, one-mul, zero-mul}
 use Rattle.algebra.proofs.ColumnCombinations.{unique}

@@ -40,3 +40,14 @@ pub record Swapped {F : Type 0} (o : Ops F) (cols a b : ℕ) (xs ys : List F) : 
 pub record Scaled {F : Type 0} (o : Ops F) (cols row : ℕ) (factor : F) (xs ys : List F) : Type 0 where
   pub there : (c : ℕ) → c < cols → cell o ys cols row c ≡ o .mul factor (cell o xs cols row c)
   pub others : (r c : ℕ) → (r ≡ row → ⊥) → c < cols → cell o ys cols r c ≡ cell o xs cols r c
+
+-- the column `col` is zero in the rows from `from` to below `rows`
+abbrev pub AllZero : {F : Type 0} → Ops F → List F → ℕ → ℕ → ℕ → ℕ → Type 0
+AllZero o xs cols from rows col = (r : ℕ) → from ≤ r → r < rows → cell o xs cols r col ≡ o .zero
+
+-- row is the first of those rows that is not zero there
+pub record FirstNonzero {F : Type 0} (o : Ops F) (xs : List F) (cols from rows col row : ℕ) : Type 0 where
+  pub low : from ≤ row
+  pub high : row < rows
+  pub nonzero : cell o xs cols row col ≡ o .zero → ⊥
+  pub earlier : AllZero o xs cols from row col

@@ -3,6 +3,7 @@ ghost use Rattle.algebra.specs.Bit.{bit-ops, bit-laws};
 use crate::field::Field;
 
 #[derive(Clone, Copy)]
+#[repr(C)]
 pub struct Bit {
     set: bool,
 }
@@ -15,11 +16,11 @@ pub impl Field for Bit as BitField {
     ghost laws = { bit-laws };
 
     fn zero() -> Bit {
-        Bit { set: false }
+        Self { set: false }
     }
 
     fn one() -> Bit {
-        Bit { set: true }
+        Self { set: true }
     }
 
     fn add(self, other: Bit) -> Bit {

@@ -5,8 +5,8 @@ ghost use mathlib.Core.Bool.{true, false};
 ghost use Prim.Native.Nat.{ℕ, _+_, _-_, _*_, _<_, _≤_};
 ghost use lib.ListN.{length, set};
 ghost use Rattle.std.specs.Options.{Cases as BySome};
-ghost use Rattle.algebra.specs.Grid.{cell, Fits, Kept, Blank, Added, Swapped, Scaled};
-ghost use Rattle.algebra.specs.Reduced.{Cleared, Pivoted, Reduced, Eliminated, Read};
+ghost use Rattle.algebra.specs.Grid.{cell, Fits, Kept, Blank, Added, Swapped, Scaled, AllZero, FirstNonzero};
+ghost use Rattle.algebra.specs.Reduced.{ClearedRows, Cleared, Pivoted, Reduced, Eliminated, Read, Solved};
 
 mod grid;
 
@@ -96,7 +96,7 @@ fn find_pivot<F: Field>(
 ) -> Option<usize>
     requires within { ⌜ rows * cols ≤ length (now cells) ⌝ }
     requires column { ⌜ col < cols ⌝ }
-    ensures { λ r. ⌜ BySome r ((i : ℕ) → from ≤ i → i < rows → cell ops (now (cells .entry)) cols i col ≡ ops .zero) (λ i. (from ≤ i) × (i < rows) × (cell ops (now (cells .entry)) cols i col ≡ ops .zero → ⊥)) ⌝ }
+    ensures { λ r. ⌜ BySome r (AllZero ops (now (cells .entry)) cols from rows col) (λ i. FirstNonzero ops (now (cells .entry)) cols from rows col i) ⌝ }
 {
     for i in from..rows {
         let x = cells[i * cols + col];
@@ -123,7 +123,31 @@ fn clear_cell<F: Field>(cells: &mut [F], cols: usize, first: usize, from: usize,
     }
 }
 
-// Makes the column `col` zero but in the row `row`, which begins there with one.
+// Makes the column `col` zero in the rows from `low` to below `high`, by the row `row`, which begins there with one.
+fn clear_rows<F: Field>(
+    cells: &mut [F],
+    cols: usize,
+    row: usize,
+    col: usize,
+    low: usize,
+    high: usize,
+)
+    requires order { ⌜ low ≤ high ⌝ }
+    requires apart { ⌜ (low ≤ row → row < high → ⊥) ⌝ }
+    requires source { ⌜ row * cols + cols ≤ length (now cells) ⌝ }
+    requires targets { ⌜ high * cols ≤ length (now cells) ⌝ }
+    requires column { ⌜ col < cols ⌝ }
+    requires blank { ⌜ ((c : ℕ) → c < col → cell ops (now cells) cols row c ≡ ops .zero) ⌝ }
+    requires one { ⌜ cell ops (now cells) cols row col ≡ ops .one ⌝ }
+    ensures { λ _. ⌜ ClearedRows ops cols row col low high (now (cells .entry)) (now (cells .exit)) ⌝ }
+{
+    for i in low..high {
+        clear_cell(cells, cols, col, row, i);
+    }
+}
+
+// Makes the column `col` zero but in the row `row`, which begins there with one. The rows above and below are two ranges, each apart
+// from the row, so that the compiler can tell them from it and add by vectors.
 fn clear_column<F: Field>(cells: &mut [F], rows: usize, cols: usize, row: usize, col: usize)
     requires within { ⌜ rows * cols ≤ length (now cells) ⌝ }
     requires row { ⌜ row < rows ⌝ }
@@ -132,11 +156,8 @@ fn clear_column<F: Field>(cells: &mut [F], rows: usize, cols: usize, row: usize,
     requires one { ⌜ cell ops (now cells) cols row col ≡ ops .one ⌝ }
     ensures { λ _. ⌜ Cleared ops rows cols row col (now (cells .entry)) (now (cells .exit)) ⌝ }
 {
-    for i in 0..rows {
-        if i != row {
-            clear_cell(cells, cols, col, row, i);
-        }
-    }
+    clear_rows(cells, cols, row, col, 0, row);
+    clear_rows(cells, cols, row, col, row + 1, rows);
 }
 
 // Makes the column `col` the unit of the row `rank`, where some row from `rank` on is not zero there.
@@ -151,7 +172,7 @@ fn reduce_column<F: Field>(
     requires column { ⌜ col < cols ⌝ }
     requires blank { ⌜ ((r c : ℕ) → rank ≤ r → r < rows → c < col → cell ops (now cells) cols r c ≡ ops .zero) ⌝ }
     ensures found { λ r. ⌜ (r ≡ true → Pivoted ops rows cols rank col (now (cells .entry)) (now (cells .exit))) ⌝ }
-    ensures none { λ r. ⌜ (r ≡ false → (now (cells .exit) ≡ now (cells .entry)) × ((r : ℕ) → rank ≤ r → r < rows → cell ops (now (cells .entry)) cols r col ≡ ops .zero)) ⌝ }
+    ensures none { λ r. ⌜ (r ≡ false → (now (cells .exit) ≡ now (cells .entry)) × AllZero ops (now (cells .entry)) cols rank rows col) ⌝ }
 {
     match find_pivot(cells, rows, cols, rank, col) {
         None => false,
@@ -221,4 +242,13 @@ fn read_solution<F: Field>(cells: &mut [F], rows: usize, cols: usize, rank: usiz
         }
     }
     row == rank
+}
+
+// Writes over the first row the coefficients by which the other columns give the last; false where they do not.
+fn solve<F: Field>(cells: &mut [F], rows: usize, cols: usize) -> bool
+    requires { ⌜ Fits rows cols (length (now cells)) ⌝ }
+    ensures { λ r. ⌜ Solved ops rows cols (now (cells .entry)) (now (cells .exit)) r ⌝ }
+{
+    let rank = eliminate(cells, rows, cols);
+    read_solution(cells, rows, cols, rank)
 }

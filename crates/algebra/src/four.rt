@@ -8,6 +8,26 @@ pub struct Four {
     alpha: bool,
 }
 
+const ZERO: Four = Four {
+    unit: false,
+    alpha: false,
+};
+
+const ONE: Four = Four {
+    unit: true,
+    alpha: false,
+};
+
+const ALPHA: Four = Four {
+    unit: false,
+    alpha: true,
+};
+
+const ALPHA_PLUS_ONE: Four = Four {
+    unit: true,
+    alpha: true,
+};
+
 pub impl Field for Four as FourField {
     const SIZE: u8 = 4;
 
@@ -16,17 +36,11 @@ pub impl Field for Four as FourField {
     ghost laws = { four-laws };
 
     fn zero() -> Four {
-        Four {
-            unit: false,
-            alpha: false,
-        }
+        ZERO
     }
 
     fn one() -> Four {
-        Four {
-            unit: true,
-            alpha: false,
-        }
+        ONE
     }
 
     fn add(self, other: Four) -> Four {
@@ -63,22 +77,10 @@ pub impl Field for Four as FourField {
 
     fn from_code(code: u8) -> Option<Four> {
         match code {
-            0 => Some(Four {
-                unit: false,
-                alpha: false,
-            }),
-            1 => Some(Four {
-                unit: true,
-                alpha: false,
-            }),
-            2 => Some(Four {
-                unit: false,
-                alpha: true,
-            }),
-            3 => Some(Four {
-                unit: true,
-                alpha: true,
-            }),
+            0 => Some(ZERO),
+            1 => Some(ONE),
+            2 => Some(ALPHA),
+            3 => Some(ALPHA_PLUS_ONE),
             _ => None,
         }
     }

@@ -2,7 +2,7 @@
 use mathlib.Core.Path.{_≡_, refl, sym, ap, subst, _∙_}
 use mathlib.Core.Logic.{⊎-elim}
 use mathlib.Core.Bool.{Bool, true}
-use mathlib.Core.List.{List, [], _∷_, _++_, map}
+use mathlib.Core.List.{List, [], _∷_, map}
 use Prim.Native.Nat.{ℕ, zero, suc, _+_, _≤_, _<_}
 use native.Mathlib.Omega.{arith}
 use lib.Dec.{lit<}
@@ -15,11 +15,13 @@ use Rattle.algebra.specs.Field.{Ops, Laws}
 use Rattle.coloring.specs.declared.pairs.Pair.{Pair}
 use Rattle.polynomials.specs.declared.term.Term.{Term}
 use Rattle.coloring.specs.Coloring.{Color, Proper}
-use Rattle.coloring.specs.Encoding.{Joins, Listed, All-listed, Lawful}
+use Rattle.coloring.specs.Encoding.{Joins, Lawful}
 use Rattle.coloring.specs.Equations.{cube, cubes, edge, plain}
-use Rattle.coloring.specs.Pairs.{upto, two, pair, row, pairs}
+use Rattle.coloring.specs.Pairs.{upto, pair, row, pairs}
 use Rattle.polynomials.specs.Polynomial.{coefficient}
-use Rattle.coloring.specs.Values.{value, nought, point}
+use Rattle.polynomials.specs.Certificate.{Listed, AllListed}
+use Rattle.polynomials.specs.Evaluation.{zeroPair, value}
+use Rattle.coloring.specs.Roots.{root}
 use Rattle.coloring.proofs.Bounds.{Within, pairs-within}
 use Rattle.coloring.proofs.Numbering.{pair-there}
 use Rattle.coloring.proofs.Roots.{cube-vanishes, edge-vanishes}
@@ -80,12 +82,12 @@ module _ {C : Type 0} (o : Ops C) where
   pub has-listed : (es : List (List (Term C))) (p : List (Term C)) → Has es p → Listed o es p
   has-listed es p h = (h .0, h .1, λ e. ap (λ z. coefficient o z e) (h .2 []))
 
-  pub all-listed : (ps es : List (List (Term C))) → All (Has es) ps → All-listed o ps es
+  pub all-listed : (ps es : List (List (Term C))) → All (Has es) ps → AllListed o ps es
   all-listed ps es h k l = has-listed es (getD ps k []) (all-getD (Has es) ps k [] l h)
 
-  pub plain-vanishes : (laws : Laws o) (n : ℕ) (f : ℕ → ℕ → Bool) (c : ℕ → Color) → n ≤ 24 → Proper n f c → All (λ e. value o (point o c) e ≡ nought o) (plain (o .one) n f)
+  pub plain-vanishes : (laws : Laws o) (n : ℕ) (f : ℕ → ℕ → Bool) (c : ℕ → Color) → n ≤ 24 → Proper n f c → All (λ e. value o (λ i. root o (c i)) e ≡ zeroPair o) (plain (o .one) n f)
   plain-vanishes laws n f c h proper =
-      let P : List (Term C) → Type 0 = λ e. value o (point o c) e ≡ nought o in
+      let P : List (Term C) → Type 0 = λ e. value o (λ i. root o (c i)) e ≡ zeroPair o in
       all-append P (upto (cubes (o .one)) n) (map (edge (o .one)) (pairs f n))
       (all-upto P (cubes (o .one)) n (λ k l. (cube-vanishes o laws c k (omega arith), tt)))
       (all-map P (edge (o .one)) (pairs f n)
@@ -96,7 +98,7 @@ module _ {C : Type 0} (o : Ops C) where
   pub plain-lawful : Laws o → Lawful o (plain (o .one))
   plain-lawful laws = record {
     lists = λ n f h. all-listed _ _ (plain-kept (o .one) n n f f (omega arith) (λ k l e. e));
-    vanishes = λ n f c h p k l. all-getD (λ e. value o (point o c) e ≡ nought o) (plain (o .one) n f) k [] l (plain-vanishes laws n f c h p);
+    vanishes = λ n f c h p k l. all-getD (λ e. value o (λ i. root o (c i)) e ≡ zeroPair o) (plain (o .one) n f) k [] l (plain-vanishes laws n f c h p);
     vertex = λ n f h. all-listed _ _ (plain-kept (o .one) n (n + 1) f f (omega arith) (λ k l e. e));
     edge = λ n f h i j l w. all-listed _ _ (plain-kept (o .one) n n f h (omega arith) (joins-more f h i j w));
   }

@@ -9,3 +9,5 @@ pub mod Corners
 pub mod Roots
 pub mod Kept
 pub mod Added
+pub mod Certified
+pub mod Alike

@@ -1,14 +1,13 @@
 -- Which equation of the plain list has a number, and the terms past its end.
-use mathlib.Core.Path.{_≡_, refl, sym, ap, subst, _∙_}
+use mathlib.Core.Path.{_≡_, refl, sym, subst, _∙_}
 use mathlib.Core.Logic.{⊎-elim}
 use mathlib.Core.Bool.{Bool}
-use mathlib.Core.List.{List, [], _∷_, _++_, map}
+use mathlib.Core.List.{[], _++_, map}
 use Prim.Native.Nat.{ℕ, zero, suc, _+_, _-_, _≤_, _<_}
 use native.Mathlib.Omega.{arith}
 use lib.ListN.{length, getD, length-append}
 use Rattle.std.proofs.shelf.Lists.{length-map, getD-append-left, getD-append-right, getD-push}
 use Rattle.std.proofs.shelf.Tests.{cases-eq}
-use Rattle.std.specs.declared.option.Option.{Option}
 use Rattle.std.specs.declared.option.Option.the-variants.{Some, None}
 use Rattle.coloring.specs.declared.pairs.Pair.{Pair}
 use Rattle.coloring.specs.Pairs.{at, upto, pairs}

@@ -11,10 +11,11 @@ use Rattle.polynomials.specs.declared.term.Term.{Term}
 use Rattle.coloring.specs.Coloring.{Color, Proper}
 use Rattle.coloring.specs.Equations.{plain}
 use Rattle.coloring.specs.Graph.{joined}
-use Rattle.polynomials.specs.Polynomial.{Equal}
+use Rattle.polynomials.specs.Certificate.{AllListed}
+use Rattle.polynomials.specs.Evaluation.{Solves}
 use Rattle.monomials.specs.Order.{degree}
 use Rattle.coloring.specs.Absent.{absent}
-use Rattle.coloring.specs.Values.{value, nought, point}
+use Rattle.coloring.specs.Roots.{root}
 
 -- a function of the number of vertices and of which pairs are joined, at a graph
 abbrev pub over : {A : Type 0} → (ℕ → (ℕ → ℕ → Bool) → A) → Graph → A
@@ -45,17 +46,9 @@ module _ {C : Type 0} (o : Ops C) where
     pub count : (n : ℕ) (f : ℕ → ℕ → Bool) → n ≤ 24 → length (l n f) ≤ most
     pub equations : (n : ℕ) (f : ℕ → ℕ → Bool) → n ≤ 24 → (k : ℕ) → k < length (l n f) → Short n (getD (l n f) k [])
 
-  -- the polynomial p is one of those listed, whatever the order of its terms
-  abbrev pub Listed : List (List (Term C)) → List (Term C) → Type 0
-  Listed es p = (k : ℕ) × (k < length es) × Equal o (getD es k []) p
-
-  -- every polynomial of the first list is one of the second
-  abbrev pub All-listed : List (List (Term C)) → List (List (Term C)) → Type 0
-  All-listed ps es = (k : ℕ) → k < length ps → Listed es (getD ps k [])
-
   -- the equations have the plain ones among them, hold at every proper coloring, and stay where a vertex or an edge is added
   pub record Lawful (l : ℕ → (ℕ → ℕ → Bool) → List (List (Term C))) : Type 0 where
-    pub lists : (n : ℕ) (f : ℕ → ℕ → Bool) → n ≤ 24 → All-listed (plain (o .one) n f) (l n f)
-    pub vanishes : (n : ℕ) (f : ℕ → ℕ → Bool) (c : ℕ → Color) → n ≤ 24 → Proper n f c → (k : ℕ) → k < length (l n f) → value o (point o c) (getD (l n f) k []) ≡ nought o
-    pub vertex : (n : ℕ) (f : ℕ → ℕ → Bool) → n < 24 → All-listed (l n f) (l (n + 1) f)
-    pub edge : (n : ℕ) (f h : ℕ → ℕ → Bool) (i j : ℕ) → n ≤ 24 → Joins f i j h → All-listed (l n f) (l n h)
+    pub lists : (n : ℕ) (f : ℕ → ℕ → Bool) → n ≤ 24 → AllListed o (plain (o .one) n f) (l n f)
+    pub vanishes : (n : ℕ) (f : ℕ → ℕ → Bool) (c : ℕ → Color) → n ≤ 24 → Proper n f c → Solves o (λ i. root o (c i)) (l n f)
+    pub vertex : (n : ℕ) (f : ℕ → ℕ → Bool) → n < 24 → AllListed o (l n f) (l (n + 1) f)
+    pub edge : (n : ℕ) (f h : ℕ → ℕ → Bool) (i j : ℕ) → n ≤ 24 → Joins f i j h → AllListed o (l n f) (l n h)

@@ -4,5 +4,6 @@ pub mod Pairs
 pub mod Triangles
 pub mod Equations
 pub mod Coloring
-pub mod Values
+pub mod Roots
 pub mod Encoding
+pub mod Theorems

@@ -4,4 +4,13 @@ pub mod edge;
 pub mod encoding;
 pub mod graph;
 mod pairs;
+pub mod theorems;
 mod triangles;
+
+pub use edge::Edge;
+pub use encoding::Encoding;
+pub use encoding::plain::Plain;
+pub use encoding::plain::PlainEncoding;
+pub use encoding::triangles::Triangles;
+pub use encoding::triangles::TrianglesEncoding;
+pub use graph::Graph;

@@ -15,3 +15,4 @@ pub mod Seeking
 pub mod Raising
 pub mod Steps
 pub mod Once
+pub mod Meaning

@@ -38,8 +38,8 @@ module _ {F : Type 0} (o : Ops F) (p : ℕ) (x y : ℕ → F) (same : (k : ℕ) 
   present-same : (k : ℕ) → present o p x k ≡ present o p y k
   present-same k =
       elim (cases-lt k p) [
-        inl l ↦ ap (λ (z : F). ltb k p && not (eqb (o .code z) 0)) (same k l)
-      | inr l ↦ ap (λ (b : Bool). b && not (eqb (o .code (x k)) 0)) (le-ltb k p l) ∙ sym (ap (λ (b : Bool). b && not (eqb (o .code (y k)) 0)) (le-ltb k p l))
+        | inl l ↦ ap (λ (z : F). ltb k p && not (eqb (o .code z) 0)) (same k l)
+        | inr l ↦ ap (λ (b : Bool). b && not (eqb (o .code (x k)) 0)) (le-ltb k p l) ∙ sym (ap (λ (b : Bool). b && not (eqb (o .code (y k)) 0)) (le-ltb k p l))
       ]
 
   bits-same : (b k : ℕ) → bits o p x b k ≡ bits o p y b k

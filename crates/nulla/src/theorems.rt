@@ -1,10 +1,17 @@
 // What holds of every call on every solver, each statement on the contract of a function of its own.
-ghost use Rattle.nulla.specs.Theorems.{OneOutcome};
+ghost use Rattle.nulla.specs.Theorems.{OneOutcome, VerdictsMean};
 use coloring::encoding::Encoding;
 
 /// The rules give each call one reply, one state and one memory after it.
 pub fn one_outcome<E: Encoding>() -> u8
     ensures { λ _. ⌜ ((s : E) → OneOutcome (Coeff·Field .ops) (E·Encoding .lists s)) ⌝ }
+{
+    0
+}
+
+/// Infeasible means that a certificate exists and that no coloring is proper; open means that no certificate of the degree exists.
+pub fn verdicts_mean<E: Encoding>() -> u8
+    ensures { λ _. ⌜ ((s : E) → VerdictsMean (Coeff·Field .ops) (E·Encoding .lists s)) ⌝ }
 {
     0
 }

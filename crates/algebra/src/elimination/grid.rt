@@ -2,15 +2,15 @@
 // whether the slice has room for the grid, and where it has not, does nothing.
 ghost use mathlib.Core.Path.{_≡_};
 ghost use mathlib.Core.Bool.{true, false};
-ghost use Prim.Native.Nat.{ℕ, _-_, _*_, _≤_};
+ghost use Prim.Native.Nat.{_-_, _≤_};
 ghost use denote.Ref.{name};
-ghost use Rattle.algebra.specs.Grid.{cell, Kept, Blank};
-ghost use Rattle.algebra.specs.Reduced.{Reduced, Eliminated, Read, Solved};
-ghost use Rattle.algebra.specs.Held.{held, Roomy, Held, Got, Put};
+ghost use Rattle.algebra.specs.Grid.{Kept};
+ghost use Rattle.algebra.specs.Held.{held, Roomy, Held, Got, Put, Untouched, BlankGrid, EliminatedGrid, ReadGrid, SolvedGrid};
 use super::clear;
 use super::eliminate;
 use super::read_cell;
 use super::read_solution;
+use super::solve;
 use super::write_cell;
 use crate::field::Field;
 
@@ -70,8 +70,8 @@ impl<'a, F: Field> Grid<'a, F> {
     /// Makes each cell of the grid zero.
     pub fn clear(&mut self)
         ensures held { λ _. ⌜ Held (now (self .entry)) (now (self .exit)) ⌝ }
-        ensures done { λ _. ⌜ (Roomy (now (self .entry)) → Blank ops (now (self .entry) .rows * now (self .entry) .cols) (held (now (self .entry))) (held (now (self .exit)))) ⌝ }
-        ensures refused { λ _. ⌜ ((Roomy (now (self .entry)) → ⊥) → held (now (self .exit)) ≡ held (now (self .entry))) ⌝ }
+        ensures done { λ _. ⌜ (Roomy (now (self .entry)) → BlankGrid ops (now (self .entry)) (now (self .exit))) ⌝ }
+        ensures refused { λ _. ⌜ ((Roomy (now (self .entry)) → ⊥) → Untouched (now (self .entry)) (now (self .exit))) ⌝ }
     {
         if self.fits() {
             let rows = self.rows;
@@ -83,8 +83,8 @@ impl<'a, F: Field> Grid<'a, F> {
     /// Brings the rows into reduced form, and returns their rank.
     pub fn eliminate(&mut self) -> usize
         ensures held { λ _. ⌜ Held (now (self .entry)) (now (self .exit)) ⌝ }
-        ensures done { λ r. ⌜ (Roomy (now (self .entry)) → Eliminated ops (now (self .entry) .rows) (now (self .entry) .cols) r (held (now (self .entry))) (held (now (self .exit)))) ⌝ }
-        ensures refused { λ r. ⌜ ((Roomy (now (self .entry)) → ⊥) → (r ≡ 0) × (held (now (self .exit)) ≡ held (now (self .entry)))) ⌝ }
+        ensures done { λ r. ⌜ (Roomy (now (self .entry)) → EliminatedGrid ops (now (self .entry)) (now (self .exit)) r) ⌝ }
+        ensures refused { λ r. ⌜ ((Roomy (now (self .entry)) → ⊥) → (r ≡ 0) × Untouched (now (self .entry)) (now (self .exit))) ⌝ }
     {
         if !self.fits() {
             return 0;
@@ -98,9 +98,9 @@ impl<'a, F: Field> Grid<'a, F> {
     /// false where they do not.
     pub fn read_solution(&mut self, rank: usize) -> bool
         ensures held { λ _. ⌜ Held (now (self .entry)) (now (self .exit)) ⌝ }
-        ensures done { λ r. ⌜ (Roomy (now (self .entry)) → (pivot : ℕ → ℕ) → Reduced ops (now (self .entry) .rows) (now (self .entry) .cols) rank pivot (cell ops (held (now (self .entry))) (now (self .entry) .cols)) → Read ops (now (self .entry) .rows) (now (self .entry) .cols) rank pivot (held (now (self .entry))) (held (now (self .exit))) r) ⌝ }
+        ensures done { λ r. ⌜ (Roomy (now (self .entry)) → ReadGrid ops (now (self .entry)) (now (self .exit)) rank r) ⌝ }
         ensures kept { λ _. ⌜ Kept ops (now (self .entry) .cols - 1) (held (now (self .entry))) (held (now (self .exit))) ⌝ }
-        ensures refused { λ r. ⌜ ((Roomy (now (self .entry)) → rank ≤ now (self .entry) .rows → ⊥) → (r ≡ false) × (held (now (self .exit)) ≡ held (now (self .entry)))) ⌝ }
+        ensures refused { λ r. ⌜ ((Roomy (now (self .entry)) → rank ≤ now (self .entry) .rows → ⊥) → (r ≡ false) × Untouched (now (self .entry)) (now (self .exit))) ⌝ }
     {
         if rank > self.rows || !self.fits() {
             return false;
@@ -113,10 +113,14 @@ impl<'a, F: Field> Grid<'a, F> {
     /// Writes over the first row the coefficients by which the other columns give the last; false where they do not.
     pub fn solve(&mut self) -> bool
         ensures held { λ _. ⌜ Held (now (self .entry)) (now (self .exit)) ⌝ }
-        ensures done { λ r. ⌜ (Roomy (now (self .entry)) → Solved ops (now (self .entry) .rows) (now (self .entry) .cols) (held (now (self .entry))) (held (now (self .exit))) r) ⌝ }
-        ensures refused { λ r. ⌜ ((Roomy (now (self .entry)) → ⊥) → (r ≡ false) × (held (now (self .exit)) ≡ held (now (self .entry)))) ⌝ }
+        ensures done { λ r. ⌜ (Roomy (now (self .entry)) → SolvedGrid ops (now (self .entry)) (now (self .exit)) r) ⌝ }
+        ensures refused { λ r. ⌜ ((Roomy (now (self .entry)) → ⊥) → (r ≡ false) × Untouched (now (self .entry)) (now (self .exit))) ⌝ }
     {
-        let rank = self.eliminate();
-        self.read_solution(rank)
+        if !self.fits() {
+            return false;
+        }
+        let rows = self.rows;
+        let cols = self.cols;
+        solve(self.cells, rows, cols)
     }
 }

@@ -1,11 +1,10 @@
-use mathlib.Core.Path.{_≡_, sym, ap, _∙_}
+use mathlib.Core.Path.{sym, ap, _∙_}
 use Prim.Native.Nat.{_+_, _*_}
 use native.Mathlib.Omega.{arith}
 use borrow.Author.Needs.{needs}
 use lib.Dec.{eqb}
 use Rattle.std.proofs.shelf.Lists.{getD-read}
 use Rattle.std.proofs.shelf.Tests.{eqb-true, eqb-false, not-true, not-false}
-use Rattle.algebra.specs.Grid.{cell}
 use Rattle.algebra.proofs.Places.{row-before}
 use Rattle.algebra.proofs.elimination.begins_at.Needs as need
 

@@ -1,12 +1,11 @@
 use mathlib.Core.Path.{_≡_, sym, ap, _∙_}
-use Prim.Native.Nat.{_+_, _*_, _<_, _≤_}
+use Prim.Native.Nat.{_+_, _*_, _≤_}
 use native.Mathlib.Omega.{arith}
 use borrow.Author.Needs.{needs}
 use borrow.Author.Count.{below-more}
-use lib.ListN.{length}
 use Rattle.std.proofs.shelf.Lists.{getD-read}
 use Rattle.algebra.specs.Grid.{cell}
-use Rattle.algebra.proofs.Places.{row-before, cell-in}
+use Rattle.algebra.proofs.Places.{row-before}
 use Rattle.algebra.proofs.elimination.find_pivot.Needs as need
 
 pub mul-x : need.mul-x
@@ -27,7 +26,12 @@ returns-then-code-ne0 g c =
     let o = g .F·Field .ops in
     let laws = g .F·Field .laws in
     let r = getD-read (c .args .cells .now) (c .loop-i .i * c .args .cols + c .args .col) (c .index-cells-i .result) (omega arith) (c .index-cells-i .is) (o .zero) in
-    (omega arith, omega arith, λ e. c .if-code-ne0 .taken (c .code .ensures ∙ ap (o .code) (r ∙ e) ∙ laws .code-zero))
+    record {
+      low = omega arith;
+      high = omega arith;
+      nonzero = λ e. c .if-code-ne0 .taken (c .code .ensures ∙ ap (o .code) (r ∙ e) ∙ laws .code-zero);
+      earlier = c .loop-i .inv;
+    }
 
 pub loop-i-again : need.loop-i-again
 loop-i-again g c i from below =

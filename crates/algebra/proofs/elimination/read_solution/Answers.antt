@@ -1,4 +1,4 @@
-use mathlib.Core.Path.{_≡_, sym, ap, subst, _∙_}
+use mathlib.Core.Path.{_≡_, subst}
 use Prim.Native.Nat.{ℕ, _+_, _-_, _*_, _<_}
 use native.Mathlib.Omega.{arith}
 use borrow.Author.Needs.{needs}
@@ -6,7 +6,7 @@ use lib.Dec.{eqb}
 use lib.ListN.{length}
 use Rattle.std.proofs.shelf.Lists.{getD-read}
 use Rattle.std.proofs.shelf.Tests.{eqb-true, eqb-false}
-use Rattle.algebra.specs.Grid.{cell, Kept}
+use Rattle.algebra.specs.Grid.{Kept}
 use Rattle.algebra.proofs.Places.{row-before}
 use Rattle.algebra.proofs.Reading.{Walk, kept-none, kept-more, walk-none, walk-found, walk-skip, walk-all}
 use Rattle.algebra.proofs.elimination.read_solution.Needs as need
@@ -66,12 +66,14 @@ loop-col-again g c =
           let k = getD-read (l .cells) (l .row * a .cols + (a .cols - 1)) (w .index-cells-row .result) (omega arith) (w .index-cells-row .is) (o .zero) in
           rw (w .cells-is, w .row-is) (
             kept-more o (l .col) (a .cells .now) (l .cells) (w .index-cells-row .result) (l .inv .0),
-            λ pivot reduced. walk-found laws (a .rows) (a .cols) (a .rank) pivot (a .cells .now) reduced (l .col) (l .row) (l .cells) (w .index-cells-row .result) (omega arith) inside h (f .1) k (l .inv .1 pivot reduced),
+            λ pivot reduced. walk-found laws (a .rows) (a .cols) (a .rank) pivot (a .cells .now) reduced
+                (l .col) (l .row) (l .cells) (w .index-cells-row .result) (omega arith) inside h (f .1) k (l .inv .1 pivot reduced),
           )
       | else-begins-at w ↦
           rw (w .cells-is, w .row-is) (
             kept-more o (l .col) (a .cells .now) (l .cells) (w .zero .result) (l .inv .0),
-            λ pivot reduced. walk-skip laws (a .rows) (a .cols) (a .rank) pivot (a .cells .now) reduced (l .col) (l .row) (l .cells) (w .zero .result) inside (c .begins-at .ensures .no (w .if-begins-at .left)) (w .zero .ensures) (l .inv .1 pivot reduced),
+            λ pivot reduced. walk-skip laws (a .rows) (a .cols) (a .rank) pivot (a .cells .now) reduced
+                (l .col) (l .row) (l .cells) (w .zero .result) inside (c .begins-at .ensures .no (w .if-begins-at .left)) (w .zero .ensures) (l .inv .1 pivot reduced),
           )
     ]
 

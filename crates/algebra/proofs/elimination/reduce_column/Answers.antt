@@ -1,13 +1,11 @@
 use borrow.Author.Needs.{needs}
-use mathlib.Core.Path.{_≡_, sym, ap, subst, _∙_}
-use Prim.Native.Nat.{_+_, _*_, _<_, _≤_}
+use mathlib.Core.Path.{ap, _∙_}
+use Prim.Native.Nat.{_+_, _*_}
 use native.Mathlib.Omega.{arith}
-use lib.ListN.{length}
 use Rattle.std.proofs.shelf.Lists.{getD-read}
 use Rattle.std.proofs.shelf.Tests.{true≢false}
-use Rattle.algebra.specs.Grid.{cell}
 use Rattle.algebra.proofs.Places.{row-before}
-use Rattle.algebra.proofs.Turns.{pivoted, blank-scaled}
+use Rattle.algebra.proofs.Turns.{pivoted, blank-scaled, one-scaled}
 use Rattle.algebra.proofs.elimination.reduce_column.Needs as need
 
 pub swap-rows-requires : need.swap-rows-requires
@@ -15,7 +13,7 @@ swap-rows-requires g c κs =
     let f = c .in-Some .ensures tt in
     record {
       a-within = omega (arith, row-before (c .args .rank) (c .args .rows) (c .args .cols) (omega arith));
-      b-within = omega (arith, row-before (c .in-Some .row) (c .args .rows) (c .args .cols) (f .1));
+      b-within = omega (arith, row-before (c .in-Some .row) (c .args .rows) (c .args .cols) (f .high));
     }
 
 pub mul-x : need.mul-x
@@ -42,15 +40,16 @@ clear-column-requires g c κs =
     let us = c .swap-rows .last .cells in
     let b = row-before (a .rank) (a .rows) (a .cols) (omega arith) in
     let x = getD-read us (a .rank * a .cols + a .col) (c .index-cells-rank .result) (omega arith) (c .index-cells-rank .is) (o .zero) in
-    let y = cell o us (a .cols) (a .rank) (a .col) in
     record {
       within = omega arith;
       row = omega arith;
       column = c .pre .column;
-      blank = λ d h. blank-scaled laws (a .rows) (a .cols) (a .rank) (a .col) (c .in-Some .row) (c .inv .result) (a .cells .now) us (c .scale-row .last .cells) (c .pre .column) (f .0) (f .1) (c .pre .blank) (c .swap-rows .ensures) (c .scale-row .ensures) d h;
+      blank =
+          blank-scaled laws (a .rows) (a .cols) (a .rank) (a .col) (c .in-Some .row) (c .inv .result) (a .cells .now) us (c .scale-row .last .cells)
+          (c .pre .column) (f .low) (f .high) (c .pre .blank) (c .swap-rows .ensures) (c .scale-row .ensures);
       one =
-          c .scale-row .ensures .there (a .col) (c .pre .column) ∙ laws .mul-comm (c .inv .result) y ∙ ap (o .mul y) (c .inv .ensures ∙ ap (o .inv) x)
-          ∙ laws .mul-inv y (λ z. f .2 (sym (c .swap-rows .ensures .first (a .col) (c .pre .column)) ∙ z));
+          one-scaled laws (a .rows) (a .cols) (a .rank) (a .col) (c .in-Some .row) (c .inv .result) (a .cells .now) us (c .scale-row .last .cells)
+          (c .pre .column) (f .nonzero) (c .swap-rows .ensures) (c .inv .ensures ∙ ap (o .inv) x) (c .scale-row .ensures);
     }
 
 pub returns-in-Some : need.returns-in-Some
@@ -62,6 +61,10 @@ returns-in-Some g c =
     let b = row-before (a .rank) (a .rows) (a .cols) (omega arith) in
     let x = getD-read us (a .rank * a .cols + a .col) (c .index-cells-rank .result) (omega arith) (c .index-cells-rank .is) (o .zero) in
     record {
-      found = λ t. pivoted (g .F·Field .laws) (a .rows) (a .cols) (a .rank) (a .col) (c .in-Some .row) (c .inv .result) (a .cells .now) us (c .scale-row .last .cells) (c .clear-column .last .cells) (c .pre .column) (f .0) (f .1) (c .pre .blank) (f .2) (c .swap-rows .ensures) (c .inv .ensures ∙ ap (o .inv) x) (c .scale-row .ensures) (c .clear-column .ensures);
+      found = λ t.
+          pivoted (g .F·Field .laws) (a .rows) (a .cols) (a .rank) (a .col) (c .in-Some .row) (c .inv .result)
+          (a .cells .now) us (c .scale-row .last .cells) (c .clear-column .last .cells)
+          (c .pre .column) (f .low) (f .high) (c .pre .blank) (f .nonzero)
+          (c .swap-rows .ensures) (c .inv .ensures ∙ ap (o .inv) x) (c .scale-row .ensures) (c .clear-column .ensures);
       none = λ t. absurd (true≢false t);
     }

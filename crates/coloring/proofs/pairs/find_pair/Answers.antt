@@ -1,10 +1,8 @@
 use native.Mathlib.Omega.{arith}
-use mathlib.Core.Path.{_≡_, refl, sym, ap, _∙_}
-use Prim.Native.Nat.{_+_}
-use mathlib.Core.List.{[], _∷_}
+use mathlib.Core.Path.{_≡_, sym, ap, _∙_}
 use lib.ListN.{length}
 use Rattle.coloring.specs.Graph.{joined}
-use Rattle.coloring.specs.Pairs.{upto, two, pair, row, pairs, at}
+use Rattle.coloring.specs.Pairs.{upto, pair, row, pairs, at}
 use Rattle.coloring.proofs.Numbering.{row-start, row-there, row-not, rows-more, pair-found}
 use Rattle.coloring.proofs.Upto.{at-past}
 use Rattle.coloring.proofs.pairs.find_pair.Needs as need

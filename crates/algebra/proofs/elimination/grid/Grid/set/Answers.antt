@@ -1,5 +1,4 @@
 use mathlib.Core.Path.{refl}
-use native.Mathlib.Omega.{arith}
 use borrow.Author.Needs.{needs}
 use Rattle.algebra.proofs.Places.{row-before}
 use Rattle.algebra.proofs.elimination.grid.Grid.set.Needs as need

@@ -1,6 +1,5 @@
 use native.Mathlib.Omega.{arith}
 use mathlib.Core.Path.{sym, ap, _∙_}
-use mathlib.Core.List.{List}
 use lib.ListN.{getD}
 use Rattle.coloring.specs.Graph.{joined}
 use Rattle.coloring.specs.Absent.{absent}
