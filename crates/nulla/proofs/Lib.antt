@@ -4,6 +4,10 @@ pub mod States
 pub mod Edges
 pub mod Sizing
 pub mod Bytes
+pub mod Digits
+pub mod Parts
+pub mod Formed
+pub mod Inverse
 pub mod Multipliers
 pub mod Columns
 pub mod Terms
@@ -16,3 +20,5 @@ pub mod Raising
 pub mod Steps
 pub mod Once
 pub mod Meaning
+pub mod Runs
+pub mod Twins

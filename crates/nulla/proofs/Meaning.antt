@@ -26,7 +26,7 @@ differ : true ≡ false → ⊥
 differ e = let z : _≡_ {A = ℕ} 0 1 = cc in omega arith
 
 module _ {F : Type 0} {o : Ops F} (laws : Laws o) (l : Lists F) (lawful : Lawful o l) where
-  worked-means : {n d : ℕ} {f : ℕ → ℕ → Bool} {m k : Memory F} {v : Verdict} → n ≤ 24 → Worked o n d (l n f) m v k → Meaning o l n d f v
+  pub worked-means : {n d : ℕ} {f : ℕ → ℕ → Bool} {m k : Memory F} {v : Verdict} → n ≤ 24 → Worked o n d (l n f) m v k → Meaning o l n d f v
   worked-means {n} {d} {f} few (certified x c) =
       let some : Certified o n d (l n f) = products-suffice laws .back n d (l n f) x few (c .sums) in
       record { certified = λ e. some; uncolorable = λ e. no-coloring laws l lawful n d f few some; uncertified = λ e. absurd (differ e) }

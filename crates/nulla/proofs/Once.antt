@@ -34,33 +34,37 @@ unfolding upto
 upto-same g h zero e = refl
 upto-same g h (suc n) e = ap (λ (xs : List ℕ). xs ++ g n) (upto-same g h n (λ k l. e k (omega arith))) ∙ ap (λ (xs : List ℕ). upto h n ++ xs) (e n (omega arith))
 
-module _ {F : Type 0} (o : Ops F) (p : ℕ) (x y : ℕ → F) (same : (k : ℕ) → k < p → x k ≡ y k) where
-  present-same : (k : ℕ) → present o p x k ≡ present o p y k
+-- over two fields: they depend on the codes alone
+module _ {F G : Type 0} (o : Ops F) (q : Ops G) (p : ℕ) (x : ℕ → F) (y : ℕ → G) (same : (k : ℕ) → k < p → o .code (x k) ≡ q .code (y k)) where
+  present-same : (k : ℕ) → present o p x k ≡ present q p y k
   present-same k =
       elim (cases-lt k p) [
-        | inl l ↦ ap (λ (z : F). ltb k p && not (eqb (o .code z) 0)) (same k l)
-        | inr l ↦ ap (λ (b : Bool). b && not (eqb (o .code (x k)) 0)) (le-ltb k p l) ∙ sym (ap (λ (b : Bool). b && not (eqb (o .code (y k)) 0)) (le-ltb k p l))
+        | inl l ↦ ap (λ (c : ℕ). ltb k p && not (eqb c 0)) (same k l)
+        | inr l ↦ ap (λ (b : Bool). b && not (eqb (o .code (x k)) 0)) (le-ltb k p l) ∙ sym (ap (λ (b : Bool). b && not (eqb (q .code (y k)) 0)) (le-ltb k p l))
       ]
 
-  bits-same : (b k : ℕ) → bits o p x b k ≡ bits o p y b k
+  bits-same : (b k : ℕ) → bits o p x b k ≡ bits q p y b k
   unfolding bits
   bits-same b zero = refl
-  bits-same b (suc k) = ap (λ (n : ℕ). n + cond (present o p x (8 * b + k)) (2 ^ k) 0) (bits-same b k) ∙ ap (λ (v : Bool). bits o p y b k + cond v (2 ^ k) 0) (present-same (8 * b + k))
+  bits-same b (suc k) = ap (λ (n : ℕ). n + cond (present o p x (8 * b + k)) (2 ^ k) 0) (bits-same b k) ∙ ap (λ (v : Bool). bits q p y b k + cond v (2 ^ k) 0) (present-same (8 * b + k))
 
-  pub bytes-same : (n d e : ℕ) → bytesOf o p x n d e ≡ bytesOf o p y n d e
-  bytes-same n d e =
-      ap (λ (xs : List ℕ). headOf (o .size) n d e ++ (xs ++ codesOf o p x)) (upto-same (λ b. bits o p x b 8 ∷ []) (λ b. bits o p y b 8 ∷ []) (map-bytes p) (λ b l. ap (λ (n : ℕ). n ∷ []) (bits-same b 8)))
-      ∙ ap (λ (xs : List ℕ). headOf (o .size) n d e ++ (mapOf o p y ++ xs)) (upto-same (codeOf o p x) (codeOf o p y) p (λ k l. ap (λ (z : F). cond (eqb (o .code z) 0) [] (o .code z ∷ [])) (same k l)))
+  pub tail-same : mapOf o p x ++ codesOf o p x ≡ mapOf q p y ++ codesOf q p y
+  tail-same =
+      ap (λ (xs : List ℕ). xs ++ codesOf o p x) (upto-same (λ b. bits o p x b 8 ∷ []) (λ b. bits q p y b 8 ∷ []) (map-bytes p) (λ b l. ap (λ (n : ℕ). n ∷ []) (bits-same b 8)))
+      ∙ ap (λ (xs : List ℕ). mapOf q p y ++ xs) (upto-same (codeOf o p x) (codeOf q p y) p (λ k l. ap (λ (c : ℕ). cond (eqb c 0) [] (c ∷ [])) (same k l)))
+
+pub bytes-same : {F : Type 0} (o : Ops F) (p : ℕ) (x y : ℕ → F) → ((k : ℕ) → k < p → x k ≡ y k) → (n d e : ℕ) → bytesOf o p x n d e ≡ bytesOf o p y n d e
+bytes-same o p x y same n d e = ap (λ (xs : List ℕ). headOf (o .size) n d e ++ xs) (tail-same o o p x y (λ k l. ap (o .code) (same k l)))
 
 -- the first ground is one, and where there is one the call is not clear
-first-one : (gs : List Ground) (r q : Refusal) → First gs r → First gs q → r ≡ q
+pub first-one : (gs : List Ground) (r q : Refusal) → First gs r → First gs q → r ≡ q
 first-one [] r q h k = absurd h
 first-one (g ∷ gs) r q (inl h) (inl k) = h .1 ∙ sym (k .1)
 first-one (g ∷ gs) r q (inl h) (inr k) = absurd (k .0 (h .0))
 first-one (g ∷ gs) r q (inr h) (inl k) = absurd (h .0 (k .0))
 first-one (g ∷ gs) r q (inr h) (inr k) = first-one gs r q (h .1) (k .1)
 
-not-both : (gs : List Ground) (r : Refusal) → First gs r → Clear gs → ⊥
+pub not-both : (gs : List Ground) (r : Refusal) → First gs r → Clear gs → ⊥
 not-both [] r h c = h
 not-both (g ∷ gs) r (inl h) c = c .0 (h .0)
 not-both (g ∷ gs) r (inr h) c = not-both gs r (h .1) (c .1)

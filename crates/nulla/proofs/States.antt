@@ -12,11 +12,11 @@ use Rattle.nulla.specs.State.{State, state, with-pair}
 pub same-state : {n m d e : ℕ} {f g : ℕ → ℕ → Bool} {a b : Bool} → n ≡ m → ((i j : ℕ) → f i j ≡ g i j) → d ≡ e → a ≡ b → state n f d a ≡ state m g e b
 same-state p q r s t = record { vertices = p t; joins = λ i j. q i j t; degree = r t; infeasible = s t }
 
-here : (f : ℕ → ℕ → Bool) (i j : ℕ) (v : Bool) → with-pair f i j v i j ≡ v
+pub here : (f : ℕ → ℕ → Bool) (i j : ℕ) (v : Bool) → with-pair f i j v i j ≡ v
 here f i j v =
     ap (λ (b : Bool). cond (b && eqb j j) v (f i j)) (eq-eqb i i refl) ∙ ap (λ (b : Bool). cond b v (f i j)) (eq-eqb j j refl)
 
-elsewhere : (f : ℕ → ℕ → Bool) (i j : ℕ) (v : Bool) (k l : ℕ) → (k ≡ i → l ≡ j → ⊥) → with-pair f i j v k l ≡ f k l
+pub elsewhere : (f : ℕ → ℕ → Bool) (i j : ℕ) (v : Bool) (k l : ℕ) → (k ≡ i → l ≡ j → ⊥) → with-pair f i j v k l ≡ f k l
 elsewhere f i j v k l n =
     elim (cases-eq k i) [
       | inl p ↦

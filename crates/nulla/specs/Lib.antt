@@ -5,7 +5,9 @@ pub mod Sizes
 pub mod Measures
 pub mod Certificate
 pub mod Written
+pub mod Reading
 pub mod Matrix
 pub mod Outcome
 pub mod Steps
 pub mod Theorems
+pub mod Runs

@@ -90,6 +90,13 @@ Works o n d equations m (Ok v) k =
 Works o n d equations m (Err r) k =
     First (limit d ++ room (length equations) n d (length (m .table)) (length (m .certificate))) r × (k ≡ m)
 
+-- What a raise is refused on: e equations, so many elements of the table and bytes for the certificate.
+abbrev pub raising : State → ℕ → ℕ → ℕ → List Ground
+raising s e elements bytes =
+    if AlreadyInfeasible (s .infeasible ≡ true)
+    ∷ if LastDegree (48 ≤ s .degree)
+    ∷ room e (s .vertices) (s .degree + 1) elements bytes
+
 module _ {F : Type 0} (o : Ops F) (l : Lists F) where
   -- how many equations the encoding lists
   abbrev pub equations : State → ℕ
@@ -100,10 +107,7 @@ module _ {F : Type 0} (o : Ops F) (l : Lists F) where
   grounds OpenVertex s m = if NoVertexLeft (24 ≤ s .vertices) ∷ []
   grounds (AddEdge i j) s m = ends i j s ++ standing i j s
   grounds (RemoveEdge i j) s m = ends i j s ++ lacking i j s
-  grounds Raise s m =
-      if AlreadyInfeasible (s .infeasible ≡ true)
-      ∷ if LastDegree (48 ≤ s .degree)
-      ∷ room (equations s) (s .vertices) (s .degree + 1) (length (m .table)) (length (m .certificate))
+  grounds Raise s m = raising s (equations s) (length (m .table)) (length (m .certificate))
 
   -- What a call that is not refused answers, the state after it, and what it leaves in memory.
   pub data Answers : Call → State → Memory F → Reply → State → Memory F → Type 0 where

@@ -2,6 +2,7 @@
 pub mod call;
 pub mod certificate;
 mod matrix;
+pub mod reading;
 pub mod refusal;
 pub mod reply;
 mod sizes;
@@ -13,11 +14,13 @@ use algebra::Four;
 pub use call::Call;
 use coloring::Plain;
 use coloring::Triangles;
+pub use reading::bytes_stand;
 pub use refusal::Refusal;
 pub use reply::Reply;
 pub use reply::Verdict;
 pub use solver::Solver;
 pub use theorems::one_outcome;
+pub use theorems::runs_stand;
 pub use theorems::verdicts_mean;
 
 /// A solver over bits with the plain encoding.
