@@ -128,7 +128,7 @@ impl<E: Encoding> Solver<E> {
     {
         match call {
             Call::OpenVertex => match self.open_vertex() {
-                Ok(number) => Reply::Opened(number),
+                Ok(vertex) => Reply::Opened(vertex),
                 Err(refusal) => Reply::Refused(refusal),
             },
             Call::AddEdge(i, j) => match self.add_edge(i, j) {

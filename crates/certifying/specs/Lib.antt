@@ -1,0 +1,4 @@
+pub mod Hexadecimal
+pub mod Turns
+pub mod Text
+pub mod Sides
