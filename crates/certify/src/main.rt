@@ -112,5 +112,9 @@ fn run(rt: &LibcRuntime) -> Result<(), AnyError> {
 }
 
 fn main(rt: LibcRuntime) -> Result<(), AnyError> {
-    rt.report(run(&rt))
+    let outcome = run(&rt);
+    if let Err(error) = &outcome {
+        eprintln!(rt, "certify: {error}")?;
+    }
+    outcome
 }
