@@ -1,5 +1,7 @@
 // Certificates of one degree: how large their matrix is, the search for one, their bytes, the check of one, and why any of that
 // is refused.
+#![tactic(auto)]
+
 pub mod checking;
 mod matrix;
 mod reading;

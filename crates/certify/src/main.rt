@@ -1,5 +1,7 @@
 // Answers the script on standard input, a line for each call, on a solver over bits and on one over four values, and shows both
 // certificates where no proper coloring exists. The argument `triangles` picks the encoding with triangles for both.
+#![tactic(auto)]
+
 ghost use Rattle.std.specs.Prelude.{◌≤◌, length, IfOk};
 
 use anyhow::anyhow;

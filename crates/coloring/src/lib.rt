@@ -1,4 +1,5 @@
 // The 3-coloring of graphs as polynomial equations.
+#![tactic(auto)]
 
 pub mod encoding;
 mod pairs;

@@ -1,5 +1,7 @@
 // An encoding as a client writes one: the equations of the plain encoding, listed twice. What it must show is in the laws of
 // the trait, and every solver then works with it.
+#![tactic(auto)]
+
 ghost use Rattle.std.specs.Prelude.{◌≡◌, ◌*◌, [], length};
 ghost use Rattle.coloring.specs.Encoding.{over};
 ghost use Rattle.coloring.specs.Equations.{plain};

@@ -1,5 +1,7 @@
 // Works an encoding that a client wrote on the library's own solver, beside the plain one, over bits and over four values: the
 // equations are twice as many, and the degrees and verdicts are the same.
+#![tactic(auto)]
+
 use coloring::encoding::Encoding;
 use coloring::encoding::plain::Plain;
 use custom::Repeated;

@@ -1,5 +1,7 @@
 // Prints the equations of small graphs, term by term as coefficient code and exponents, so that the two encodings can be
 // compared by hand; of the largest graph it prints counts alone.
+#![tactic(auto)]
+
 use coloring::encoding::Encoding;
 use coloring::encoding::plain::Plain;
 use coloring::encoding::triangles::Triangles;

@@ -1,4 +1,6 @@
 // Finite fields in which one plus one is zero: what a field is, bits, and the four values.
+#![tactic(auto)]
+
 mod bit;
 mod field;
 mod four;

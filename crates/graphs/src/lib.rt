@@ -1,4 +1,6 @@
 // Graphs of up to 24 vertices, their edges, and an edge that stands for the time of a trial.
+#![tactic(auto)]
+
 mod edge;
 mod graph;
 

@@ -1,4 +1,6 @@
 // How a certificate is laid out in bytes: what is written, and that it can be read back.
+#![tactic(auto)]
+
 mod theorems;
 mod writing;
 

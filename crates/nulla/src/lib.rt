@@ -1,4 +1,6 @@
 // A solver of graph coloring by Nullstellensatz certificates: its calls, its replies and its refusals.
+#![tactic(auto)]
+
 pub mod call;
 pub mod replay;
 pub mod reply;

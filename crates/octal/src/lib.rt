@@ -1,5 +1,7 @@
 // The field of eight elements u + aα + sα² over the bits, where α³ = α + 1, as a crate above `algebra` would add a field of its own:
 // it shows the laws, and all that is proved of elimination holds over it.
+#![tactic(auto)]
+
 ghost use Rattle.std.specs.Prelude.{◌≡◌, ℕ, length};
 ghost use Rattle.fields.specs.Bit.{bit_ops};
 ghost use Rattle.algebra.specs.Grid.{Fits};

@@ -1,5 +1,7 @@
 // Prints counts and places of monomials that can be checked by hand, with the refusals at each bound, and walks through
 // all places of some cases, comparing neighbours by degree and exponents alone.
+#![tactic(auto)]
+
 use std::io;
 
 fn show_count(rt: HostRuntime, variables: usize, degree: usize) -> io::Result<()> {

@@ -1,4 +1,6 @@
 // The text of plans: a line for each call on a solver, and a line of answer for each.
+#![tactic(auto)]
+
 ghost use Rattle.plan.specs.Plans.{Entry};
 
 use fields::{Bit, Field};

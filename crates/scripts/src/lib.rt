@@ -1,4 +1,6 @@
 // A whole script answered for a caller in C, on a solver of any of four kinds, so that the answers can be compared with others.
+#![tactic(auto)]
+
 ghost use Rattle.std.specs.Prelude.{◌≡◌, ◌*◌, ◌≤◌, length};
 ghost use Rattle.fields.specs.Bit.{bit_ops};
 ghost use Rattle.fields.specs.Four.{four_ops};

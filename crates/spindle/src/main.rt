@@ -1,5 +1,7 @@
 // Works the Moser spindle, seven vertices and eleven edges, at degree 1: the plain equations have no certificate there, those with
 // triangles have one. Prints how many equations it is over, and which products it uses, by equation and place of the monomial.
+#![tactic(auto)]
+
 use coloring::encoding::Encoding;
 use coloring::encoding::plain::Plain;
 use coloring::encoding::triangles::Triangles;

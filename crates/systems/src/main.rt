@@ -1,5 +1,7 @@
 // Solves small pseudo-random systems over the bits and over the field of four elements, and compares each answer with a search through all
 // assignments: an independent account of what elimination decides. A line for each system.
+#![tactic(auto)]
+
 use algebra::Grid;
 use fields::Field;
 use std::io;

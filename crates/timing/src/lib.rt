@@ -1,4 +1,6 @@
 // Elimination over bits as a C caller sees it, so that it can be timed beside another program on the same matrix.
+#![tactic(auto)]
+
 ghost use Rattle.std.specs.Prelude.{◌≡◌, ℕ, ◌*◌, length};
 ghost use Rattle.fields.specs.Bit.{bit_ops};
 ghost use Rattle.algebra.specs.Grid.{Fits, Blank};

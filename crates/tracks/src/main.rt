@@ -1,5 +1,7 @@
 // Answers the plan on standard input, on standard output. One byte more than a plan may have is read, so that a longer input
 // is seen to be one.
+#![tactic(auto)]
+
 ghost use Rattle.std.specs.Prelude.{◌≤◌, length, pos, IfOk};
 ghost use Rattle.plan.specs.Plans.{Entry, room_of};
 

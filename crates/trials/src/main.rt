@@ -1,6 +1,8 @@
 // Makes trials of edges between all the other calls, drawn from a fixed seed, on four solvers side by side, and reads each
 // solver's graph back after every call: no trial leaves its edge behind, whatever it answers. Where a trial answers infeasible the
 // edge is added, and the certificate that the trial wrote is checked. Prints what the calls came to.
+#![tactic(auto)]
+
 mod counts;
 mod draws;
 mod record;

@@ -1,6 +1,8 @@
 // Prints what the first degree comes to for graphs whose answers are known: wheels with an odd rim and the Grötzsch graph
 // have certificates of degree 1, wheels with an even rim have none there. Then it lends a solver exactly what it needs, and
 // one element or byte less.
+#![tactic(auto)]
+
 use coloring::encoding::plain::Plain;
 use fields::{Bit, Field};
 use nulla::{Refusal, Solver, Verdict};

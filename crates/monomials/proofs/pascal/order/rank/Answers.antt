@@ -29,6 +29,6 @@ place-of-requires c =
 pub returns : goal.returns
 returns c =
     let some : count_for (length c.args.exponents.now) (degree c.args.exponents.now) ≡ Some c.in-Some.monomials =
-    ap (count_for (length c.args.exponents.now)) (sym c.degree-of.ensures) ∙ sym c.count.ensures.is ∙ c.in-Some.is in
-    ap Some c.place-of.ensures
+    ap (count_for (length c.args.exponents.now)) (sym c.degree_of.ensures) ∙ sym c.count.ensures.is ∙ c.in-Some.is in
+    ap Some c.place_of.ensures
     ∙ sym (reach.rank_some c.args.exponents.now c.in-Some.monomials some (omega arith))

@@ -17,8 +17,8 @@ pub loop-i-preserved : goal.loop-i-preserved
 loop-i-preserved c =
     goes_on c.args.degree c.args.place (length c.args.exponents.now) c.loop-i.i c.loop-i.top c.loop-i.left
     c.loop-i.exponents c.loop-i.invariant c.loop-i-test.true c.loop-i.auto.exponents (omega arith)
-    c.degree-at-rest.result c.fewer-left.result
-    c.degree-at-rest.ensures.most c.degree-at-rest.ensures.from c.degree-at-rest.ensures.below c.fewer-left.ensures
+    c.degree_at-rest.result c.fewer-left.result
+    c.degree_at-rest.ensures.most c.degree_at-rest.ensures.from c.degree_at-rest.ensures.below c.fewer-left.ensures
 
 pub returns : goal.returns
 returns c =
