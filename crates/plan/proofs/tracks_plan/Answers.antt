@@ -5,8 +5,8 @@ use Rattle.plan.specs.Plans.{Entry}
 use Rattle.plan.proofs.Turns.{answer_small, entry_written, entry_refused}
 use Rattle.plan.proofs.tracks_plan.Goals as goal
 
-pub overflow-cast-result : goal.overflow-cast-result
-overflow-cast-result c = let small : c.in-Ok.length ≤ 36864 = answer_small c.in-Ok.ensures in search rules
+pub overflow_cast-result : goal.overflow_cast-result
+overflow_cast-result c = let small : c.in-Ok.length ≤ 36864 = answer_small c.in-Ok.ensures in search rules
 
 pub returns-in-Ok : goal.returns-in-Ok
 returns-in-Ok c =

@@ -4,14 +4,14 @@ use Rattle.std.proofs.lemmas.Bool.{eqb-true, eqb-false, not-true, not-false}
 use Rattle.algebra.proofs.Places.{row_before}
 use Rattle.algebra.proofs.elimination.begins_at.Goals as goal
 
-pub overflow-mul-x : goal.overflow-mul-x
-overflow-mul-x g c = let b = row_before c.args.row c.args.rows c.args.cols (omega arith) in search rules
+pub overflow_mul-x : goal.overflow_mul-x
+overflow_mul-x g c = let b = row_before c.args.row c.args.rows c.args.cols (omega arith) in search rules
 
-pub overflow-add-x : goal.overflow-add-x
-overflow-add-x g c = let b = row_before c.args.row c.args.rows c.args.cols (omega arith) in search rules
+pub overflow_add-x : goal.overflow_add-x
+overflow_add-x g c = let b = row_before c.args.row c.args.rows c.args.cols (omega arith) in search rules
 
-pub offset-bounds-cells-row : goal.offset-bounds-cells-row
-offset-bounds-cells-row g c = let b = row_before c.args.row c.args.rows c.args.cols (omega arith) in search rules
+pub offset_bounds-cells-row : goal.offset_bounds-cells-row
+offset_bounds-cells-row g c = let b = row_before c.args.row c.args.rows c.args.cols (omega arith) in search rules
 
 pub bounds-cells-row : goal.bounds-cells-row
 bounds-cells-row g c = omega (arith, row_before c.args.row c.args.rows c.args.cols (omega arith))

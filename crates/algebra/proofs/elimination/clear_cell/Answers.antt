@@ -9,7 +9,7 @@ returns-then-code-ne0 g c =
     let o = g.F.Field.ops in
     let a = c.args in
     let k = get_or_read a.cells.now (a.to * a.cols + a.first) c.index-cells-to.result (omega arith) c.index-cells-to.is o.zero in
-    subst (λ z. Added o a.cols a.from a.to z a.cells.now c.add-multiple.new.cells) k c.add-multiple.ensures
+    subst (λ z. Added o a.cols a.from a.to z a.cells.now c.add_multiple.new.cells) k c.add_multiple.ensures
 
 pub returns-else-code-ne0 : goal.returns-else-code-ne0
 returns-else-code-ne0 g c =

@@ -7,8 +7,8 @@ use Rattle.algebra.proofs.elimination.clear_rows.Goals as goal
 pub loop-i-init : goal.loop-i-init
 loop-i-init g c = cleared_none g.F.Field.laws c.args.cols c.args.row c.args.col c.args.cells.now c.args.low
 
-pub clear-cell-requires : goal.clear-cell-requires
-clear-cell-requires g c =
+pub clear_cell-requires : goal.clear_cell-requires
+clear_cell-requires g c =
     let a = c.args in
     let l = c.loop-i in
     record {
@@ -23,8 +23,8 @@ pub loop-i-preserved : goal.loop-i-preserved
 loop-i-preserved g c =
     let a = c.args in
     let l = c.loop-i in
-    cleared_more g.F.Field.laws a.cols a.row a.col a.cells.now a.low l.i l.cells c.clear-cell.new.cells (omega arith)
-    (λ p q. c.requires.apart p (omega arith)) c.requires.column c.requires.one l.invariant c.clear-cell.ensures
+    cleared_more g.F.Field.laws a.cols a.row a.col a.cells.now a.low l.i l.cells c.clear_cell.new.cells (omega arith)
+    (λ p q. c.requires.apart p (omega arith)) c.requires.column c.requires.one l.invariant c.clear_cell.ensures
 
 pub returns : goal.returns
 returns g c =

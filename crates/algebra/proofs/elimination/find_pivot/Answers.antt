@@ -4,14 +4,14 @@ use Rattle.algebra.specs.Grid.{cell}
 use Rattle.algebra.proofs.Places.{row_before}
 use Rattle.algebra.proofs.elimination.find_pivot.Goals as goal
 
-pub overflow-mul-x : goal.overflow-mul-x
-overflow-mul-x g c = let b = row_before c.loop-i.i c.args.rows c.args.cols (omega arith) in search rules
+pub overflow_mul-x : goal.overflow_mul-x
+overflow_mul-x g c = let b = row_before c.loop-i.i c.args.rows c.args.cols (omega arith) in search rules
 
-pub overflow-add-x : goal.overflow-add-x
-overflow-add-x g c = let b = row_before c.loop-i.i c.args.rows c.args.cols (omega arith) in search rules
+pub overflow_add-x : goal.overflow_add-x
+overflow_add-x g c = let b = row_before c.loop-i.i c.args.rows c.args.cols (omega arith) in search rules
 
-pub offset-bounds-cells-i : goal.offset-bounds-cells-i
-offset-bounds-cells-i g c = omega (arith, row_before c.loop-i.i c.args.rows c.args.cols (omega arith))
+pub offset_bounds-cells-i : goal.offset_bounds-cells-i
+offset_bounds-cells-i g c = omega (arith, row_before c.loop-i.i c.args.rows c.args.cols (omega arith))
 
 pub bounds-cells-i : goal.bounds-cells-i
 bounds-cells-i g c = omega (arith, row_before c.loop-i.i c.args.rows c.args.cols (omega arith))

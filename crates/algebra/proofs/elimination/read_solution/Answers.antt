@@ -5,7 +5,7 @@ use Rattle.algebra.specs.Grid.{Kept}
 use Rattle.algebra.proofs.Places.{row_before}
 use Rattle.algebra.proofs.Reading.{Walk, kept_none, kept_more, walk_none, walk_found, walk_skip, walk_all}
 use Rattle.algebra.proofs.elimination.read_solution.Goals as goal
-use Rattle.algebra.proofs.elimination.read_solution.Goals.{then-begins-at, else-begins-at}
+use Rattle.algebra.proofs.elimination.read_solution.Goals.{then-begins_at, else-begins_at}
 
 pub loop-col-init : goal.loop-col-init
 loop-col-init g c = (
@@ -13,37 +13,37 @@ loop-col-init g c = (
   λ pivot reduced. walk_none g.F.Field.laws c.args.rows c.args.cols c.args.rank pivot c.args.cells.now reduced,
 )
 
-pub overflow-mul-cells : goal.overflow-mul-cells
-overflow-mul-cells g c =
-    let h = (c.begins-at.ensures.yes c.if-begins-at.true).0 in
+pub overflow_mul-cells : goal.overflow_mul-cells
+overflow_mul-cells g c =
+    let h = (c.begins_at.ensures.yes c.if-begins_at.true).0 in
     let b = row_before c.loop-col.row c.args.rows c.args.cols (omega arith) in search rules
 
-pub overflow-add-cells : goal.overflow-add-cells
-overflow-add-cells g c =
-    let h = (c.begins-at.ensures.yes c.if-begins-at.true).0 in
+pub overflow_add-cells : goal.overflow_add-cells
+overflow_add-cells g c =
+    let h = (c.begins_at.ensures.yes c.if-begins_at.true).0 in
     let b = row_before c.loop-col.row c.args.rows c.args.cols (omega arith) in search rules
 
-pub offset-bounds-cells-row : goal.offset-bounds-cells-row
-offset-bounds-cells-row g c =
-    let h = (c.begins-at.ensures.yes c.if-begins-at.true).0 in
+pub offset_bounds-cells-row : goal.offset_bounds-cells-row
+offset_bounds-cells-row g c =
+    let h = (c.begins_at.ensures.yes c.if-begins_at.true).0 in
     let b = row_before c.loop-col.row c.args.rows c.args.cols (omega arith) in search rules
 
 pub bounds-cells-row : goal.bounds-cells-row
 bounds-cells-row g c =
-    let h = (c.begins-at.ensures.yes c.if-begins-at.true).0 in
+    let h = (c.begins_at.ensures.yes c.if-begins_at.true).0 in
     omega (arith, row_before c.loop-col.row c.args.rows c.args.cols (omega arith))
 
-pub offset-bounds-cells-col : goal.offset-bounds-cells-col
-offset-bounds-cells-col g c = let b = row_before 0 c.args.rows c.args.cols c.requires.fits.some_row in search rules
+pub offset_bounds-cells-col : goal.offset_bounds-cells-col
+offset_bounds-cells-col g c = let b = row_before 0 c.args.rows c.args.cols c.requires.fits.some_row in search rules
 
 pub bounds-cells-col : goal.bounds-cells-col
 bounds-cells-col g c = omega (arith, row_before 0 c.args.rows c.args.cols c.requires.fits.some_row)
 
-pub offset-bounds-cells-col-else-begins-at : goal.offset-bounds-cells-col-else-begins-at
-offset-bounds-cells-col-else-begins-at g c = let b = row_before 0 c.args.rows c.args.cols c.requires.fits.some_row in search rules
+pub offset_bounds-cells-col-else-begins_at : goal.offset_bounds-cells-col-else-begins_at
+offset_bounds-cells-col-else-begins_at g c = let b = row_before 0 c.args.rows c.args.cols c.requires.fits.some_row in search rules
 
-pub bounds-cells-col-else-begins-at : goal.bounds-cells-col-else-begins-at
-bounds-cells-col-else-begins-at g c = omega (arith, row_before 0 c.args.rows c.args.cols c.requires.fits.some_row)
+pub bounds-cells-col-else-begins_at : goal.bounds-cells-col-else-begins_at
+bounds-cells-col-else-begins_at g c = omega (arith, row_before 0 c.args.rows c.args.cols c.requires.fits.some_row)
 
 pub loop-col-preserved : goal.loop-col-preserved
 loop-col-preserved g c =
@@ -53,9 +53,9 @@ loop-col-preserved g c =
     let l = c.loop-col in
     let first = row_before 0 a.rows a.cols c.requires.fits.some_row in
     let inside : l.col < length l.cells = omega arith in
-    elim c.if-begins-at.branch [
-      | then-begins-at w ↦
-          let f = c.begins-at.ensures.yes w.if-begins-at.true in
+    elim c.if-begins_at.branch [
+      | then-begins_at w ↦
+          let f = c.begins_at.ensures.yes w.if-begins_at.true in
           let h : l.row < a.rank = f.0 in
           let b = row_before l.row a.rows a.cols (omega arith) in
           let k = get_or_read l.cells (l.row * a.cols + (a.cols - 1)) w.index-cells-row.result (omega arith) w.index-cells-row.is o.zero in
@@ -64,11 +64,11 @@ loop-col-preserved g c =
             λ pivot reduced. walk_found laws a.rows a.cols a.rank pivot a.cells.now reduced
                 l.col l.row l.cells w.index-cells-row.result (omega arith) inside h f.1 k (l.invariant.1 pivot reduced),
           )
-      | else-begins-at w ↦
+      | else-begins_at w ↦
           rw (w.cells-is, w.row-is) (
             kept_more o l.col a.cells.now l.cells w.zero.result l.invariant.0,
             λ pivot reduced. walk_skip laws a.rows a.cols a.rank pivot a.cells.now reduced
-                l.col l.row l.cells w.zero.result inside (c.begins-at.ensures.no w.if-begins-at.false) w.zero.ensures (l.invariant.1 pivot reduced),
+                l.col l.row l.cells w.zero.result inside (c.begins_at.ensures.no w.if-begins_at.false) w.zero.ensures (l.invariant.1 pivot reduced),
           )
     ]
 

@@ -13,7 +13,7 @@ use Rattle.certificates.proofs.Columns.{summed_none}
 use Rattle.certificates.proofs.Grids.{held_self, term_turn}
 use Rattle.certificates.proofs.Terms.{sound_monomial, byte_sums, row_of}
 use Rattle.certificates.proofs.matrix.add_product.Goals as goal
-use Rattle.certificates.proofs.matrix.add_product.Goals.{in-Some, in-default}
+use Rattle.certificates.proofs.matrix.add_product.Goals.{in-Some, in_default}
 
 pub loop-index-init : goal.loop-index-init
 loop-index-init g c =
@@ -52,7 +52,7 @@ loop-index-preserved g c =
           (term_turn g.Coeff.Field.laws n c.args.degree c.args.column gr.few c.args.monomial c.requires.monomial c.args.factor e c.args.grid.now c.requires.room c.requires.rows c.requires.column
           c.loop-index.index w.in-Some.row c.term-term.result c.plus-exponents.result c.loop-index.grid w.set.new.self w.get.result w.mul.result w.add-sum.result inside c.term-term.ensures told c.plus-exponents.ensures is
           w.get.ensures w.mul.ensures w.add-sum.ensures w.set.ensures.held w.set.ensures.cell c.loop-index.invariant.0 c.loop-index.invariant.1)
-      | in-default w ↦ absurd (w.in-default.not-Some _ (c.rank.ensures ∙ row.0))
+      | in_default w ↦ absurd (w.in_default.not-Some _ (c.rank.ensures ∙ row.0))
     ]
 
 pub returns : goal.returns

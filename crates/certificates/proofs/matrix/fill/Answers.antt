@@ -28,8 +28,8 @@ loop-equation-init g c =
           (begun_none g.Coeff.Field.laws n d eqs (held c.args.grid.now) (λ k h. c.requires.blank k (subst (λ (a : ℕ). k < a) (sym area) h))),
     )
 
-pub fill-equation-requires : goal.fill-equation-requires
-fill-equation-requires g c =
+pub fill_equation-requires : goal.fill_equation-requires
+fill_equation-requires g c =
     let gr = c.args.graph.now in
     let z = c.requires.measured.is in
     record {
@@ -49,10 +49,10 @@ loop-equation-preserved g c =
     let o = g.Coeff.Field.ops in
     let same : c.loop-equation.grid.rows * c.loop-equation.grid.cols ≡ c.args.grid.now.rows * c.args.grid.now.cols =
     ap (λ (a : ℕ). a * c.loop-equation.grid.cols) c.loop-equation.invariant.0.rows ∙ ap (λ (a : ℕ). c.args.grid.now.rows * a) c.loop-equation.invariant.0.cols in (
-      held_then c.args.grid.now c.loop-equation.grid c.fill-equation.new.grid c.loop-equation.invariant.0 c.fill-equation.ensures.held,
-      kept_then o (c.args.grid.now.rows * c.args.grid.now.cols) (held c.args.grid.now) (held c.loop-equation.grid) (held c.fill-equation.new.grid) c.loop-equation.invariant.1
-          (subst (λ (a : ℕ). Kept o a (held c.loop-equation.grid) (held c.fill-equation.new.grid)) same c.fill-equation.ensures.kept),
-      c.fill-equation.ensures.begun,
+      held_then c.args.grid.now c.loop-equation.grid c.fill_equation.new.grid c.loop-equation.invariant.0 c.fill_equation.ensures.held,
+      kept_then o (c.args.grid.now.rows * c.args.grid.now.cols) (held c.args.grid.now) (held c.loop-equation.grid) (held c.fill_equation.new.grid) c.loop-equation.invariant.1
+          (subst (λ (a : ℕ). Kept o a (held c.loop-equation.grid) (held c.fill_equation.new.grid)) same c.fill_equation.ensures.kept),
+      c.fill_equation.ensures.begun,
     )
 
 pub returns : goal.returns

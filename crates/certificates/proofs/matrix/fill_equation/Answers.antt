@@ -32,8 +32,8 @@ multiplier-monomial-requires g c =
       below = subst (λ (n : ℕ). c.loop-rank.rank < count n c.args.degree) (sym same) below;
     }
 
-pub overflow-add-equation : goal.overflow-add-equation
-overflow-add-equation g c =
+pub overflow_add-equation : goal.overflow_add-equation
+overflow_add-equation g c =
     let n = c.args.graph.now.vertices in
     let d = c.args.degree in
     let eqs = over (g.E.Encoding.lists c.args.encoding.now) c.args.graph.now in
@@ -41,8 +41,8 @@ overflow-add-equation g c =
     let column = column_below c.args.equation c.loop-rank.rank c.args.multipliers (length eqs) c.requires.listed below in
     omega (arith, column, ap (λ (m : ℕ). length eqs * m) c.requires.multipliers, c.requires.few)
 
-pub add-product-requires : goal.add-product-requires
-add-product-requires g c =
+pub add_product-requires : goal.add_product-requires
+add_product-requires g c =
     let gr = c.args.graph.now in
     let n = gr.vertices in
     let d = c.args.degree in
@@ -68,11 +68,11 @@ loop-rank-preserved g c =
     let n = gr.vertices in
     let d = c.args.degree in
     let before = c.loop-rank.grid in
-    let after = c.add-product.new.grid in
+    let after = c.add_product.new.grid in
     let turn = column_turn g.Coeff.Field.laws n d (over (g.E.Encoding.lists c.args.encoding.now) gr) c.args.equation c.loop-rank.rank c.args.multipliers before.cols c.multiplier-monomial.result c.one.result (held before) (held after) c.requires.listed
-    (omega (arith, c.loop-rank-test.true, c.requires.multipliers)) c.requires.multipliers (c.multiplier-monomial.ensures ∙ ap (λ (v : ℕ). monomial_at v d c.loop-rank.rank) c.vertices-vertices.ensures.value) c.one.ensures (c.loop-rank.invariant.0.cols ∙ c.requires.columns) c.add-product.ensures.summed c.loop-rank.invariant.2 in
+    (omega (arith, c.loop-rank-test.true, c.requires.multipliers)) c.requires.multipliers (c.multiplier-monomial.ensures ∙ ap (λ (v : ℕ). monomial_at v d c.loop-rank.rank) c.vertices-vertices.ensures.value) c.one.ensures (c.loop-rank.invariant.0.cols ∙ c.requires.columns) c.add_product.ensures.summed c.loop-rank.invariant.2 in
     let area : count n (d + 3) * before.cols ≡ c.args.grid.now.rows * c.args.grid.now.cols = ap (λ (a : ℕ). a * before.cols) (sym c.requires.rows) ∙ ap (λ (a : ℕ). c.args.grid.now.rows * a) c.loop-rank.invariant.0.cols in (
-      held_then c.args.grid.now before after c.loop-rank.invariant.0 c.add-product.ensures.held,
+      held_then c.args.grid.now before after c.loop-rank.invariant.0 c.add_product.ensures.held,
       kept_then o (c.args.grid.now.rows * c.args.grid.now.cols) (held c.args.grid.now) (held before) (held after) c.loop-rank.invariant.1 (subst (λ (a : ℕ). Kept o a (held before) (held after)) area turn.0),
       turn.1,
     )

@@ -6,8 +6,8 @@ use Rattle.certificates.proofs.matrix.plus.Goals as goal
 pub loop-i-init : goal.loop-i-init
 loop-i-init c = let long : length c.args.multiplier ≡ 24 = search rules in (long, (λ k h. absurd (omega arith)), λ k h. refl)
 
-pub overflow-add-sum : goal.overflow-add-sum
-overflow-add-sum c = let now = c.loop-i.invariant.2 c.loop-i.i (omega arith) in let small = c.requires c.loop-i.i in omega (arith, now, small)
+pub overflow_add-sum : goal.overflow_add-sum
+overflow_add-sum c = let now = c.loop-i.invariant.2 c.loop-i.i (omega arith) in let small = c.requires c.loop-i.i in omega (arith, now, small)
 
 pub loop-i-preserved : goal.loop-i-preserved
 loop-i-preserved c =

@@ -4,4 +4,4 @@ use Rattle.certificates.proofs.reading.marked.Goals as goal
 
 pub returns : goal.returns
 unfolding stands
-returns c = ap (λ (b : ℕ). eqb (b / 2 ^ (c.args.product % 8) % 2) 1) c.byte-at.ensures
+returns c = ap (λ (b : ℕ). eqb (b / 2 ^ (c.args.product % 8) % 2) 1) c.byte_at.ensures

@@ -6,8 +6,8 @@ use Rattle.certificates.proofs.reading.marks.Goals.{then-marked, else-marked}
 pub loop-product-init : goal.loop-product-init
 loop-product-init c = sym (before_none c.args.certificate.now)
 
-pub overflow-add-count : goal.overflow-add-count
-overflow-add-count c = omega (arith, c.loop-product.invariant, before_most c.args.certificate.now c.loop-product.product)
+pub overflow_add-count : goal.overflow_add-count
+overflow_add-count c = omega (arith, c.loop-product.invariant, before_most c.args.certificate.now c.loop-product.product)
 
 pub loop-product-preserved : goal.loop-product-preserved
 loop-product-preserved c =

@@ -5,13 +5,13 @@ use Rattle.certifying.specs.Script.{HandsDigits}
 use Rattle.certifying.proofs.Saying.{unlike}
 use Rattle.certifying.proofs.Asking.{unchecked, looks_hands}
 use Rattle.certifying.proofs.script.handed.Goals as goal
-use Rattle.certifying.proofs.script.handed.Goals.{then-line-lt-SHORTEST-CHECK-via-then-line-lt-SHORTEST-CHECK, then-line-lt-SHORTEST-CHECK-via-else-line-lt-SHORTEST-CHECK+then-line-ne0, then-line-ne-CHECK-via-then-line-ne-CHECK, then-line-ne-CHECK-via-else-line-ne-CHECK+then-line-ne-SPACE, then-line-ne-CHECK-via-else-line-ne-CHECK+else-line-ne-SPACE+then-not-is-hexadecimal}
+use Rattle.certifying.proofs.script.handed.Goals.{then-line-lt-SHORTEST_CHECK-via-then-line-lt-SHORTEST_CHECK, then-line-lt-SHORTEST_CHECK-via-else-line-lt-SHORTEST_CHECK+then-line-ne0, then-line-ne-CHECK-via-then-line-ne-CHECK, then-line-ne-CHECK-via-else-line-ne-CHECK+then-line-ne-SPACE, then-line-ne-CHECK-via-else-line-ne-CHECK+else-line-ne-SPACE+then-not-is_hexadecimal}
 
-pub returns-then-line-lt-SHORTEST-CHECK : goal.returns-then-line-lt-SHORTEST-CHECK
-returns-then-line-lt-SHORTEST-CHECK c =
-    unchecked (λ s. elim c.then-line-lt-SHORTEST-CHECK.branch [
-      | then-line-lt-SHORTEST-CHECK-via-then-line-lt-SHORTEST-CHECK w ↦ omega (arith, s.long, w.if-line-lt-SHORTEST-CHECK.true)
-      | then-line-lt-SHORTEST-CHECK-via-else-line-lt-SHORTEST-CHECK+then-line-ne0 w ↦ w.if-line-ne0.true s.even
+pub returns-then-line-lt-SHORTEST_CHECK : goal.returns-then-line-lt-SHORTEST_CHECK
+returns-then-line-lt-SHORTEST_CHECK c =
+    unchecked (λ s. elim c.then-line-lt-SHORTEST_CHECK.branch [
+      | then-line-lt-SHORTEST_CHECK-via-then-line-lt-SHORTEST_CHECK w ↦ omega (arith, s.long, w.if-line-lt-SHORTEST_CHECK.true)
+      | then-line-lt-SHORTEST_CHECK-via-else-line-lt-SHORTEST_CHECK+then-line-ne0 w ↦ w.if-line-ne0.true s.even
     ])
 
 pub returns-then-line-ne-CHECK : goal.returns-then-line-ne-CHECK
@@ -19,7 +19,7 @@ returns-then-line-ne-CHECK c =
     unchecked (λ s. elim c.then-line-ne-CHECK.branch [
       | then-line-ne-CHECK-via-then-line-ne-CHECK w ↦ w.if-line-ne-CHECK.true s.letter
       | then-line-ne-CHECK-via-else-line-ne-CHECK+then-line-ne-SPACE w ↦ w.if-line-ne-SPACE.true s.spaced
-      | then-line-ne-CHECK-via-else-line-ne-CHECK+else-line-ne-SPACE+then-not-is-hexadecimal w ↦ unlike (w.if-not-is-hexadecimal.ensures.1 (subst HexDigits (sym (take_rest c.args.line.now 2)) s.each))
+      | then-line-ne-CHECK-via-else-line-ne-CHECK+else-line-ne-SPACE+then-not-is_hexadecimal w ↦ unlike (w.if-not-is_hexadecimal.ensures.1 (subst HexDigits (sym (take_rest c.args.line.now 2)) s.each))
     ])
 
 pub returns : goal.returns
@@ -31,5 +31,5 @@ returns c =
       even = c.if-line-ne0.false;
       letter = c.if-line-ne-CHECK.false;
       spaced = c.if-line-ne-SPACE.false;
-      each = subst HexDigits rest (c.if-not-is-hexadecimal.ensures.0 refl);
+      each = subst HexDigits rest (c.if-not-is_hexadecimal.ensures.0 refl);
     }))

@@ -23,15 +23,15 @@ returns-in-Some g c =
 pub returns-in-Some-parse : goal.returns-in-Some-parse
 returns-in-Some-parse g c =
     record {
-      replied = turned (unchecked_fits _ c.in-default.ensures) (says c.in-Some-parse.ensures.0 c.make-in-Some-parse.ensures.step);
-      holds = unchecked_holds c.args.given.now c.in-default.ensures;
+      replied = turned (unchecked_fits _ c.in_default.ensures) (says c.in-Some-parse.ensures.0 c.make-in-Some-parse.ensures.step);
+      holds = unchecked_holds c.args.given.now c.in_default.ensures;
       encoding = c.make-in-Some-parse.ensures.encoding;
     }
 
 pub returns-in-None : goal.returns-in-None
 returns-in-None g c =
     record {
-      replied = turned (unchecked_fits _ c.in-default.ensures) (unsaid (unchecked_unsaid c.in-default.ensures c.in-None.ensures));
-      holds = unchecked_holds c.args.given.now c.in-default.ensures;
+      replied = turned (unchecked_fits _ c.in_default.ensures) (unsaid (unchecked_unsaid c.in_default.ensures c.in-None.ensures));
+      holds = unchecked_holds c.args.given.now c.in_default.ensures;
       encoding = refl;
     }

@@ -12,17 +12,17 @@ pub returns-then-second-line : goal.returns-then-second-line
 returns-then-second-line c letter i j d names =
     omega (arith, (three_cut letter c.args.line.now i j d names c.find-first.result c.find-second.result c.find-first.ensures c.find-second.ensures).inside)
 
-pub returns-in-default : goal.returns-in-default
-returns-in-default c letter i j d names =
+pub returns-in_default : goal.returns-in_default
+returns-in_default c letter i j d names =
     let line = c.args.line.now in
     let second = c.find-second.result in
-    c.in-default.ensures letter i j (subst (λ t. Names letter t i j) (sym (from_start line second)) (three_cut letter line i j d names c.find-first.result second c.find-first.ensures c.find-second.ensures).front_is)
+    c.in_default.ensures letter i j (subst (λ t. Names letter t i j) (sym (from_start line second)) (three_cut letter line i j d names c.find-first.result second c.find-first.ensures c.find-second.ensures).front_is)
 
-pub returns-in-default-number : goal.returns-in-default-number
-returns-in-default-number c letter i j d names =
+pub returns-in_default-number : goal.returns-in_default-number
+returns-in_default-number c letter i j d names =
     let line = c.args.line.now in
     let second = c.find-second.result in
-    c.in-default-number.ensures d (subst (λ t. Decimal t d) (sym (take_rest line (second + 1))) (three_cut letter line i j d names c.find-first.result second c.find-first.ensures c.find-second.ensures).third_is)
+    c.in_default-number.ensures d (subst (λ t. Decimal t d) (sym (take_rest line (second + 1))) (three_cut letter line i j d names c.find-first.result second c.find-first.ensures c.find-second.ensures).third_is)
 
 pub returns : goal.returns
 returns c =

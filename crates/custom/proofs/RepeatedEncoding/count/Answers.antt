@@ -4,8 +4,8 @@ use Rattle.coloring.specs.Bounds.{plain_bounded}
 use Rattle.custom.specs.Again.{double}
 use Rattle.custom.proofs.RepeatedEncoding.count.Goals as goal
 
-pub overflow-mul-result : goal.overflow-mul-result
-overflow-mul-result g c =
+pub overflow_mul-result : goal.overflow_mul-result
+overflow_mul-result g c =
     let graph = c.args.graph.now in
     omega (arith, c.count.ensures, (plain_bounded g.F.Field.ops g.F.Field.laws).count graph.vertices (joined graph) graph.few)
 

@@ -8,8 +8,8 @@ pub loop-k-init : goal.loop-k-init
 unfolding bits
 loop-k-init g c = refl
 
-pub overflow-add-byte : goal.overflow-add-byte
-overflow-add-byte g c =
+pub overflow_add-byte : goal.overflow_add-byte
+overflow_add-byte g c =
     let o = g.F.Field.ops in
     let xs = c.args.coefficients.now in
     let small : c.loop-k.byte < 2 ^ c.loop-k.k =

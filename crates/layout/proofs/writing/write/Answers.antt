@@ -9,12 +9,12 @@ returns g c =
     let xs = c.args.coefficients.now in
     let x : ℕ → g.row.F.Denot = λ k. get_or xs k o.zero in
     let head = head_of c.order.result c.args.vertices c.args.degree c.args.equations in
-    let mapped = c.write-map.ensures head c.args.certificate.now refl c.write-head.ensures in
+    let mapped = c.write_map.ensures head c.args.certificate.now refl c.write_head.ensures in
     let long : length (head ++ map_of o (length xs) x) ≡ 6 + (length xs + 7) / 8 =
     omega (arith, length-append head (map_of o (length xs) x), upto_ones (λ b. bits o (length xs) x b 8) ((length xs + 7) / 8)) in
-    let ended = c.write-codes.ensures (head ++ map_of o (length xs) x) c.args.certificate.now long mapped in
-    let whole = ended_over head (map_of o (length xs) x) (codes_of o (length xs) x) c.args.certificate.now c.write-codes.new.certificate c.write-codes.result ended in (
-      unhindered _ _ _ c.if-products-gt-MOST-PRODUCTS.false c.if-equations-gt-MOST-EQUATIONS.false (omega arith),
+    let ended = c.write_codes.ensures (head ++ map_of o (length xs) x) c.args.certificate.now long mapped in
+    let whole = ended_over head (map_of o (length xs) x) (codes_of o (length xs) x) c.args.certificate.now c.write_codes.new.certificate c.write_codes.result ended in (
+      unhindered _ _ _ c.if-products-gt-MOST_PRODUCTS.false c.if-equations-gt-MOST_EQUATIONS.false (omega arith),
       whole.0,
       whole.1 ∙ ap (λ (k : ℕ). over (head_of k c.args.vertices c.args.degree c.args.equations ++ (map_of o (length xs) x ++ codes_of o (length xs) x)) c.args.certificate.now) c.order.ensures,
     )

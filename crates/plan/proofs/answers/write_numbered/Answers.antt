@@ -8,8 +8,8 @@ write-requires c = omega (arith, decimal_short c.args.n c.requires.0)
 pub returns : goal.returns
 returns c =
     wrote_numbered c.args.text.now c.args.at c.args.word.now c.args.n
-    c.write-after-word.new.text c.write-after-word.result
-    c.write-number-after-number.new.text c.write-number-after-number.result
+    c.write-after_word.new.text c.write-after_word.result
+    c.write_number-after_number.new.text c.write_number-after_number.result
     c.write.new.text c.write.result
-    c.requires.0 c.requires.1 c.write-after-word.auto.text
-    c.write-after-word.ensures c.write-number-after-number.ensures c.write.ensures
+    c.requires.0 c.requires.1 c.write-after_word.auto.text
+    c.write-after_word.ensures c.write_number-after_number.ensures c.write.ensures

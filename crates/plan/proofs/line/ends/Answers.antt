@@ -9,15 +9,15 @@ pub returns-then-space-line : goal.returns-then-space-line
 returns-then-space-line c letter i j names =
     omega (arith, (names_cut letter c.args.line.now i j names c.find-space.result c.find-space.ensures).inside)
 
-pub returns-in-default : goal.returns-in-default
-returns-in-default c letter i j names =
-    c.in-default.ensures i (names_cut letter c.args.line.now i j names c.find-space.result c.find-space.ensures).first_is
+pub returns-in_default : goal.returns-in_default
+returns-in_default c letter i j names =
+    c.in_default.ensures i (names_cut letter c.args.line.now i j names c.find-space.result c.find-space.ensures).first_is
 
-pub returns-in-default-number : goal.returns-in-default-number
-returns-in-default-number c letter i j names =
+pub returns-in_default-number : goal.returns-in_default-number
+returns-in_default-number c letter i j names =
     let line = c.args.line.now in
     let space = c.find-space.result in
-    c.in-default-number.ensures j (subst (λ t. Decimal t j) (sym (take_rest line (space + 1))) (names_cut letter line i j names space c.find-space.ensures).second_is)
+    c.in_default-number.ensures j (subst (λ t. Decimal t j) (sym (take_rest line (space + 1))) (names_cut letter line i j names space c.find-space.ensures).second_is)
 
 pub returns : goal.returns
 returns c =

@@ -10,9 +10,9 @@ pub returns-then-line-eq1 : goal.returns-then-line-eq1
 returns-then-line-eq1 c =
     subst (λ t. Parsed t c.alone.result) (sym (only c.args.line.now c.if-line-eq1.true)) c.alone.ensures
 
-pub returns-in-default : goal.returns-in-default
-returns-in-default c =
-    malformed_by c.args.line.now c.if-line-eq1.false (c.in-default.ensures 67) (c.in-default.ensures 87)
+pub returns-in_default : goal.returns-in_default
+returns-in_default c =
+    malformed_by c.args.line.now c.if-line-eq1.false (c.in_default.ensures 67) (c.in_default.ensures 87)
 
 pub returns-then-letter-eq-ADD : goal.returns-then-letter-eq-ADD
 returns-then-letter-eq-ADD c =

@@ -12,8 +12,8 @@ use Rattle.certificates.proofs.matrix.search.seek.Goals as goal
 pub returns-then-not-solve : goal.returns-then-not-solve
 returns-then-not-solve g c = record { sought = (c.solve.ensures.decided.none c.if-not-solve.true, refl); kept = c.solve.ensures.kept }
 
-pub slice-bounds-write-end : goal.slice-bounds-write-end
-slice-bounds-write-end g c = omega (arith, products_inside _ _ _ c.args.sizes c.args.graph.now.few c.requires.measured, c.requires.table, c.solve.ensures.kept.long)
+pub slice_bounds-write-end : goal.slice_bounds-write-end
+slice_bounds-write-end g c = omega (arith, products_inside _ _ _ c.args.sizes c.args.graph.now.few c.requires.measured, c.requires.table, c.solve.ensures.kept.long)
 
 pub returns : goal.returns
 returns g c =

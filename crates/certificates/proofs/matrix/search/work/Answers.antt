@@ -10,26 +10,26 @@ use Rattle.certificates.proofs.Seeking.{blank_after, worked_some, worked_none}
 use Rattle.algebra.specs.Grid.{Kept}
 use Rattle.certificates.proofs.matrix.search.work.Goals as goal
 
-pub returns-in-err-sizes : goal.returns-in-err-sizes
-returns-in-err-sizes g c =
-    let p = err_from_is_err_and c.from-residual.result c.from-residual.ensures.1 in
-    rw (p.1, p.2) (c.in-err-sizes.ensures, refl)
+pub returns-in_err-sizes : goal.returns-in_err-sizes
+returns-in_err-sizes g c =
+    let p = err_from_is_err_and c.from_residual.result c.from_residual.ensures.1 in
+    rw (p.1, p.2) (c.in_err-sizes.ensures, refl)
 
 pub seek-found-requires : goal.seek-found-requires
 seek-found-requires g c =
-    let z = c.in-ok-sizes.ensures in
-    let same : c.in-ok-sizes.sizes.degree ≡ c.args.degree = ap (λ (s : Sizes). s.degree) z.decreases.is in
+    let z = c.in_ok-sizes.ensures in
+    let same : c.in_ok-sizes.sizes.degree ≡ c.args.degree = ap (λ (s : Sizes). s.degree) z.decreases.is in
     record {
       narrow = omega (arith, same, z.low);
-      measured = subst (λ (d : ℕ). Measured (length (over (g.E.Encoding.lists c.args.encoding.now) c.args.graph.now)) c.args.graph.now.vertices d c.in-ok-sizes.sizes) (sym same) z.decreases;
+      measured = subst (λ (d : ℕ). Measured (length (over (g.E.Encoding.lists c.args.encoding.now) c.args.graph.now)) c.args.graph.now.vertices d c.in_ok-sizes.sizes) (sym same) z.decreases;
       table = z.table;
       bytes = z.output;
     }
 
 pub wipe-requires : goal.wipe-requires
 wipe-requires g c =
-    let z = c.in-ok-sizes.ensures in
-    let size = c.in-ok-sizes.sizes in
+    let z = c.in_ok-sizes.ensures in
+    let size = c.in_ok-sizes.sizes in
     let area : size.rows * (size.products + 1) ≡ size.cells = ap (λ (s : Sizes). s.rows * (s.products + 1)) z.decreases.is ∙ sym (ap (λ (s : Sizes). s.cells) z.decreases.is) in
     record {
       rows = omega (arith, ap (λ (s : Sizes). s.rows) z.decreases.is, count_positive c.args.graph.now.vertices (c.args.degree + 3) c.args.graph.now.few);
@@ -42,8 +42,8 @@ returns-in-Some g c =
     let o = g.Coeff.Field.ops in
     let gr = c.args.graph.now in
     let eqs = over (g.E.Encoding.lists c.args.encoding.now) gr in
-    let z = c.in-ok-sizes.ensures in
-    let size = c.in-ok-sizes.sizes in
+    let z = c.in_ok-sizes.ensures in
+    let size = c.in_ok-sizes.sizes in
     let same : size.degree ≡ c.args.degree = ap (λ (s : Sizes). s.degree) z.decreases.is in
     let area : size.rows * (size.products + 1) ≡ cells (length eqs) gr.vertices c.args.degree = ap (λ (s : Sizes). s.rows * (s.products + 1)) z.decreases.is in
     let sought = subst (λ (d : ℕ). Sought o gr.vertices d eqs c.args.certificate.now (Some c.in-Some.length) c.seek-found.new.certificate) same c.in-Some.ensures.sought in
@@ -59,8 +59,8 @@ returns-in-None g c =
     let o = g.Coeff.Field.ops in
     let gr = c.args.graph.now in
     let eqs = over (g.E.Encoding.lists c.args.encoding.now) gr in
-    let z = c.in-ok-sizes.ensures in
-    let size = c.in-ok-sizes.sizes in
+    let z = c.in_ok-sizes.ensures in
+    let size = c.in_ok-sizes.sizes in
     let same : size.degree ≡ c.args.degree = ap (λ (s : Sizes). s.degree) z.decreases.is in
     let area : size.rows * (size.products + 1) ≡ cells (length eqs) gr.vertices c.args.degree = ap (λ (s : Sizes). s.rows * (s.products + 1)) z.decreases.is in
     let sought = subst (λ (d : ℕ). Sought o gr.vertices d eqs c.args.certificate.now None c.seek-found.new.certificate) same c.in-None.ensures.sought in

@@ -29,8 +29,8 @@ multiplier-monomial-requires g c =
       below = subst (λ (a : ℕ). k % c.args.sizes.multipliers < count a d) (sym same) below;
     }
 
-pub add-product-requires : goal.add-product-requires
-add-product-requires g c =
+pub add_product-requires : goal.add_product-requires
+add_product-requires g c =
     let gr = c.args.graph.now in
     let n = gr.vertices in
     let d = c.args.sizes.degree in
@@ -62,7 +62,7 @@ returns g c =
     let m = c.args.sizes.multipliers in
     let here : c.multiplier-monomial.result ≡ monomial_at n d (k % m) = c.multiplier-monomial.ensures ∙ ap (λ (v : ℕ). monomial_at v d (k % m)) c.vertices.ensures.value in
     record {
-      held = c.add-product.ensures.held;
-      summed = subst (λ p. Summed o n d c.args.grid.now.cols 0 (scaled o c.args.factor p) (held c.args.grid.now) (held c.add-product.new.grid))
-          (product_is n d eqs k m c.multiplier-monomial.result (ap (λ (s : Sizes). s.multipliers) c.requires.measured.is) here) c.add-product.ensures.summed;
+      held = c.add_product.ensures.held;
+      summed = subst (λ p. Summed o n d c.args.grid.now.cols 0 (scaled o c.args.factor p) (held c.args.grid.now) (held c.add_product.new.grid))
+          (product_is n d eqs k m c.multiplier-monomial.result (ap (λ (s : Sizes). s.multipliers) c.requires.measured.is) here) c.add_product.ensures.summed;
     }

@@ -9,7 +9,7 @@ use Rattle.certificates.proofs.Grids.{held_self, kept_self}
 use Rattle.certificates.proofs.Standing.{before_none, before_most}
 use Rattle.certificates.proofs.Summing.{totals_none, so_far_at, turn_skip, turn_more, turn_never}
 use Rattle.certificates.proofs.matrix.sum.add_products.Goals as goal
-use Rattle.certificates.proofs.matrix.sum.add_products.Goals.{then-marked, else-marked, in-Some, in-default}
+use Rattle.certificates.proofs.matrix.sum.add_products.Goals.{then-marked, else-marked, in-Some, in_default}
 
 pub loop-number-init : goal.loop-number-init
 loop-number-init g c =
@@ -25,8 +25,8 @@ loop-number-init g c =
       totals_none g.Coeff.Field.laws n d (over (g.E.Encoding.lists c.args.encoding.now) gr) c.args.certificate.now (held g0) (λ k h. c.requires.blank k (omega (arith, area))),
     )
 
-pub overflow-add-place-then-marked : goal.overflow-add-place-then-marked
-overflow-add-place-then-marked g c =
+pub overflow_add-place-then-marked : goal.overflow_add-place-then-marked
+overflow_add-place-then-marked g c =
     let z = c.requires.measured.is in
     omega (arith, c.loop-number.invariant.2, before_most c.args.certificate.now c.loop-number.number, c.loop-number-test.true, ap (λ (s : Sizes). s.map) z, ap (λ (s : Sizes). s.products) z, c.requires.measured.few_products)
 
@@ -47,14 +47,14 @@ loop-number-preserved g c =
     elim c.if-marked.branch [
       | then-marked w ↦
           let stands_here = sym c.marked.ensures ∙ w.if-marked.true in
-          elim w.match-from-code.branch [
+          elim w.match-from_code.branch [
             | in-Some v ↦
                 so_far_at laws n d eqs bytes z g0 (k + 1) (w.grid-is ∙ v.grid-is) w.place-is
-                (turn_more laws n d eqs bytes z g0 c.requires.measured c.requires.column k listed g1 place c.loop-number.invariant v.add-multiple.new.grid v.in-Some.factor stands_here (v.in-Some.ensures ∙ w.byte-at.ensures)
-                v.add-multiple.ensures.held v.add-multiple.ensures.summed)
-            | in-default v ↦
+                (turn_more laws n d eqs bytes z g0 c.requires.measured c.requires.column k listed g1 place c.loop-number.invariant v.add_multiple.new.grid v.in-Some.factor stands_here (v.in-Some.ensures ∙ w.byte_at.ensures)
+                v.add_multiple.ensures.held v.add_multiple.ensures.summed)
+            | in_default v ↦
                 so_far_at laws n d eqs bytes z g0 (k + 1) (w.grid-is ∙ v.grid-is) w.place-is
-                (turn_never laws n d eqs bytes z g0 c.requires.measured c.requires.column k listed g1 place c.loop-number.invariant stands_here (omega (arith, v.in-default.ensures, w.byte-at.ensures)))
+                (turn_never laws n d eqs bytes z g0 c.requires.measured c.requires.column k listed g1 place c.loop-number.invariant stands_here (omega (arith, v.in_default.ensures, w.byte_at.ensures)))
           ]
       | else-marked w ↦
           so_far_at laws n d eqs bytes z g0 (k + 1) w.grid-is w.place-is

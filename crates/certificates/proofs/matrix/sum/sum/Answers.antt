@@ -6,8 +6,8 @@ use Rattle.certificates.specs.declared.sizes.Sizes.{Sizes}
 use Rattle.certificates.proofs.Grids.{held_then, roomy_then, kept_then}
 use Rattle.certificates.proofs.matrix.sum.sum.Goals as goal
 
-pub add-products-requires : goal.add-products-requires
-add-products-requires g c =
+pub add_products-requires : goal.add_products-requires
+add_products-requires g c =
     let gr = c.args.graph.now in
     let z = c.requires.measured.is in
     let g0 = c.new-grid.result in
@@ -37,7 +37,7 @@ returns g c =
     let z = c.requires.measured.is in
     let g0 = c.new-grid.result in
     let g1 = c.clear.new.self in
-    let g2 = c.add-products.new.grid in
+    let g2 = c.add_products.new.grid in
     let rows : g0.rows ≡ c.args.sizes.rows = c.new-grid.ensures.rows in
     let cols : g0.cols ≡ 1 = c.new-grid.ensures.cols in
     let area : g0.rows * g0.cols ≡ c.args.sizes.rows = omega (arith, rows, ap (λ (a : ℕ). g0.rows * a) cols) in
@@ -48,7 +48,7 @@ returns g c =
     } in
     let cleared : Kept o c.args.sizes.rows (held g0) (held g1) = subst (λ (a : ℕ). Kept o a (held g0) (held g1)) area (c.clear.ensures.done room).kept in
     let all : Kept o c.args.sizes.rows c.args.table.now (held g2) =
-    subst (λ xs. Kept o c.args.sizes.rows xs (held g2)) c.new-grid.ensures.cells (kept_then o c.args.sizes.rows (held g0) (held g1) (held g2) cleared c.add-products.ensures.kept) in
-    let totals = c.add-products.ensures.totals in
-    let lent = (held_then g0 g1 g2 c.clear.ensures.held c.add-products.ensures.held).lent ∙ c.new-grid.ensures.lent in
+    subst (λ xs. Kept o c.args.sizes.rows xs (held g2)) c.new-grid.ensures.cells (kept_then o c.args.sizes.rows (held g0) (held g1) (held g2) cleared c.add_products.ensures.kept) in
+    let totals = c.add_products.ensures.totals in
+    let lent = (held_then g0 g1 g2 c.clear.ensures.held c.add_products.ensures.held).lent ∙ c.new-grid.ensures.lent in
     record { totals = search rules; kept = search rules }

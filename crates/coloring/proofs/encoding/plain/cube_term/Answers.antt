@@ -4,6 +4,6 @@ use Rattle.coloring.specs.Absent.{absent}
 use Rattle.coloring.specs.Equations.{cube}
 use Rattle.coloring.proofs.encoding.plain.cube_term.Goals as goal
 
-pub returns-in-default : goal.returns-in-default
-returns-in-default g c =
-    c.no-term.ensures ∙ sym (get_or_past (cube g.F.Field.ops.one c.args.i) c.args.index (absent g.F.Field.ops) (omega arith))
+pub returns-in_default : goal.returns-in_default
+returns-in_default g c =
+    c.no_term.ensures ∙ sym (get_or_past (cube g.F.Field.ops.one c.args.i) c.args.index (absent g.F.Field.ops) (omega arith))

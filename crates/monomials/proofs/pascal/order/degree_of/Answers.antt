@@ -13,5 +13,5 @@ loop-i-init c = (
 pub loop-i-preserved : goal.loop-i-preserved
 loop-i-preserved c = (
   total_next c.args.exponents.now c.loop-i.i c.loop-i.total c.loop-i-test.true c.loop-i.auto.i c.loop-i.invariant.0,
-  omega (arith, c.ok.exponents (c.loop-i.i - 1)),
+  omega (arith, c.type_inv.exponents (c.loop-i.i - 1)),
 )

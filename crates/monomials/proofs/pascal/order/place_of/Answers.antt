@@ -10,14 +10,14 @@ loop-i-init c =
     let none = drop_all (length c.args.exponents.now) c.args.exponents.now (le_refl (length c.args.exponents.now)) in
     (sym (ap degree none), sym (ap rank_of none))
 
-pub overflow-add-total : goal.overflow-add-total
-overflow-add-total c = search (rules, turn.total_le c.args.exponents.now c.loop-i.i c.loop-i.total c.loop-i-test.true c.loop-i.auto.i c.loop-i.invariant.0)
+pub overflow_add-total : goal.overflow_add-total
+overflow_add-total c = search (rules, turn.total_le c.args.exponents.now c.loop-i.i c.loop-i.total c.loop-i-test.true c.loop-i.auto.i c.loop-i.invariant.0)
 
 pub fewer-place-requires : goal.fewer-place-requires
 fewer-place-requires c = omega (arith, turn.total_le c.args.exponents.now c.loop-i.i c.loop-i.total c.loop-i-test.true c.loop-i.auto.i c.loop-i.invariant.0)
 
-pub overflow-add-place : goal.overflow-add-place
-overflow-add-place c =
+pub overflow_add-place : goal.overflow_add-place
+overflow_add-place c =
     search (
       rules,
       turn.place_below c.args.exponents.now c.loop-i.i c.loop-i.total c.loop-i-test.true c.loop-i.auto.i c.loop-i.invariant.0

@@ -3,13 +3,13 @@ use Rattle.monomials.specs.Reach.{count_for}
 use Rattle.monomials.proofs.Reach as reach
 use Rattle.monomials.proofs.pascal.order.unrank.Goals as goal
 
-pub returns-in-default : goal.returns-in-default
-returns-in-default c =
+pub returns-in_default : goal.returns-in_default
+returns-in_default c =
     let none : count_for (length c.args.exponents.now) c.args.degree ≡ None = cc in
     record { reached = sym (reach.reached_none (length c.args.exponents.now) c.args.degree c.args.place none); written = refl }
 
-pub returns-then-monomials-gt-MOST-MONOMIALS : goal.returns-then-monomials-gt-MOST-MONOMIALS
-returns-then-monomials-gt-MOST-MONOMIALS c =
+pub returns-then-monomials-gt-MOST_MONOMIALS : goal.returns-then-monomials-gt-MOST_MONOMIALS
+returns-then-monomials-gt-MOST_MONOMIALS c =
     let some : count_for (length c.args.exponents.now) c.args.degree ≡ Some c.in-Some.monomials = cc in
     record {
       reached = sym (reach.reached_over (length c.args.exponents.now) c.args.degree c.args.place c.in-Some.monomials some (omega arith));

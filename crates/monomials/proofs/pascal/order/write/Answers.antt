@@ -2,11 +2,11 @@ use Rattle.std.proofs.Common.{length, arith}
 use Rattle.monomials.proofs.Written.{lower_is_choose, left_within, goes_on, done}
 use Rattle.monomials.proofs.pascal.order.write.Goals as goal
 
-pub degree-at-top-requires : goal.degree-at-top-requires
-degree-at-top-requires c = omega (arith, lower_is_choose (length c.args.exponents.now) c.args.degree)
+pub degree_at-top-requires : goal.degree_at-top-requires
+degree_at-top-requires c = omega (arith, lower_is_choose (length c.args.exponents.now) c.args.degree)
 
-pub degree-at-rest-requires : goal.degree-at-rest-requires
-degree-at-rest-requires c =
+pub degree_at-rest-requires : goal.degree_at-rest-requires
+degree_at-rest-requires c =
     omega (
       arith,
       left_within c.args.degree c.args.place (length c.args.exponents.now) c.loop-i.i c.loop-i.top c.loop-i.left

@@ -13,11 +13,11 @@ returns-then-self g c =
       encoding = refl;
     }
 
-pub returns-in-err-verdict : goal.returns-in-err-verdict
-returns-in-err-verdict g c =
+pub returns-in_err-verdict : goal.returns-in_err-verdict
+returns-in_err-verdict g c =
     let s = c.args.self.now in
-    let p = err_from_is_err_and c.from-residual.result c.from-residual.ensures.1 in
-    let e = c.in-err-verdict.ensures in
+    let p = err_from_is_err_and c.from_residual.result c.from_residual.ensures.1 in
+    let e = c.in_err-verdict.ensures in
     record {
       step = rw (p.1, p.2) (raise_refused g.Coeff.Field.ops (g.E.Encoding.lists s.encoding) s.graph.vertices (joined s.graph) s.degree s.infeasible (memory c.args.table.now c.args.certificate.now) _ _ c.if-self.false e.0 e.1);
       encoding = refl;
@@ -26,8 +26,8 @@ returns-in-err-verdict g c =
 pub returns : goal.returns
 returns g c =
     let s = c.args.self.now in
-    let e = c.in-ok-verdict.ensures in
+    let e = c.in_ok-verdict.ensures in
     record {
-      step = raise_worked g.Coeff.Field.ops (g.E.Encoding.lists s.encoding) s.graph.vertices (joined s.graph) s.degree s.infeasible (memory c.args.table.now c.args.certificate.now) c.in-ok-verdict.verdict _ _ c.if-self.false e.0 e.1 c.is-infeasible-self.ensures;
+      step = raise_worked g.Coeff.Field.ops (g.E.Encoding.lists s.encoding) s.graph.vertices (joined s.graph) s.degree s.infeasible (memory c.args.table.now c.args.certificate.now) c.in_ok-verdict.verdict _ _ c.if-self.false e.0 e.1 c.is_infeasible-self.ensures;
       encoding = refl;
     }

@@ -4,19 +4,19 @@ use Rattle.nulla.specs.State.{state_of}
 use Rattle.nulla.proofs.Edges.{removing_refused, missing, removing}
 use Rattle.nulla.proofs.solver.Solver.remove_edge.Goals as goal
 
-pub returns-in-err-edge : goal.returns-in-err-edge
-returns-in-err-edge g c =
+pub returns-in_err-edge : goal.returns-in_err-edge
+returns-in_err-edge g c =
     let s = c.args.self.now in
-    let p = err_from_is_err_and c.from-residual.result c.from-residual.ensures.1 in
+    let p = err_from_is_err_and c.from_residual.result c.from_residual.ensures.1 in
     record {
-      step = rw (p.1, p.2) (removing_refused g.Coeff.Field.ops (g.E.Encoding.lists s.encoding) s.graph s.degree s.infeasible c.args.i c.args.j _ c.in-err-edge.ensures);
+      step = rw (p.1, p.2) (removing_refused g.Coeff.Field.ops (g.E.Encoding.lists s.encoding) s.graph s.degree s.infeasible c.args.i c.args.j _ c.in_err-edge.ensures);
       encoding = refl;
     }
 
 pub returns-then-not-joins : goal.returns-then-not-joins
 returns-then-not-joins g c =
     let s = c.args.self.now in
-    let e = c.in-ok-edge.ensures in
+    let e = c.in_ok-edge.ensures in
     record {
       step = missing g.Coeff.Field.ops (g.E.Encoding.lists s.encoding) s.graph s.degree s.infeasible c.args.i c.args.j _ _ e.0 e.1 e.2 (sym c.joins.ensures ∙ c.if-not-joins.true);
       encoding = refl;
@@ -25,7 +25,7 @@ returns-then-not-joins g c =
 pub returns : goal.returns
 returns g c =
     let s = c.args.self.now in
-    let e = c.in-ok-edge.ensures in
+    let e = c.in_ok-edge.ensures in
     record {
       step = removing g.Coeff.Field.ops (g.E.Encoding.lists s.encoding) s.graph s.degree s.infeasible c.args.i c.args.j _ _ e.0 e.1 e.2 _ (sym c.joins.ensures ∙ c.if-not-joins.false) c.part.ensures.pairs;
       encoding = refl;

@@ -9,59 +9,59 @@ use Rattle.nulla.proofs.Edges.{try_unranged, try_refused, try_already, try_unwor
 use Rattle.nulla.proofs.States.{solver_back, step_as}
 use Rattle.nulla.proofs.solver.Solver.try_edge.Goals as goal
 
-pub returns-then-degree-lt-FIRST-DEGREE : goal.returns-then-degree-lt-FIRST-DEGREE
-returns-then-degree-lt-FIRST-DEGREE g c =
+pub returns-then-degree-lt-FIRST_DEGREE : goal.returns-then-degree-lt-FIRST_DEGREE
+returns-then-degree-lt-FIRST_DEGREE g c =
     let s = c.args.self.now in
     record {
-      step = try_unranged g.Coeff.Field.ops (g.E.Encoding.lists s.encoding) s.graph s.degree s.infeasible c.args.i c.args.j c.args.degree c.then-degree-lt-FIRST-DEGREE.either (memory c.args.table.now c.args.certificate.now);
+      step = try_unranged g.Coeff.Field.ops (g.E.Encoding.lists s.encoding) s.graph s.degree s.infeasible c.args.i c.args.j c.args.degree c.then-degree-lt-FIRST_DEGREE.either (memory c.args.table.now c.args.certificate.now);
       same = refl;
     }
 
-pub returns-in-err-edge : goal.returns-in-err-edge
-returns-in-err-edge g c =
+pub returns-in_err-edge : goal.returns-in_err-edge
+returns-in_err-edge g c =
     let s = c.args.self.now in
-    let p = err_from_is_err_and c.from-residual.result c.from-residual.ensures.1 in
+    let p = err_from_is_err_and c.from_residual.result c.from_residual.ensures.1 in
     record {
-      step = rw (p.1, p.2) (try_refused g.Coeff.Field.ops (g.E.Encoding.lists s.encoding) s.graph s.degree s.infeasible c.args.i c.args.j c.args.degree c.if-degree-lt-FIRST-DEGREE.false c.if-degree-gt-LAST-DEGREE.false _ c.in-err-edge.ensures (memory c.args.table.now c.args.certificate.now));
+      step = rw (p.1, p.2) (try_refused g.Coeff.Field.ops (g.E.Encoding.lists s.encoding) s.graph s.degree s.infeasible c.args.i c.args.j c.args.degree c.if-degree-lt-FIRST_DEGREE.false c.if-degree-gt-LAST_DEGREE.false _ c.in_err-edge.ensures (memory c.args.table.now c.args.certificate.now));
       same = refl;
     }
 
 pub returns-then-joins : goal.returns-then-joins
 returns-then-joins g c =
     let s = c.args.self.now in
-    let e = c.in-ok-edge.ensures in
+    let e = c.in_ok-edge.ensures in
     record {
-      step = try_already g.Coeff.Field.ops (g.E.Encoding.lists s.encoding) s.graph s.degree s.infeasible c.args.i c.args.j _ _ e.0 e.1 e.2 c.args.degree c.if-degree-lt-FIRST-DEGREE.false c.if-degree-gt-LAST-DEGREE.false (sym c.joins.ensures ∙ c.if-joins.true) (memory c.args.table.now c.args.certificate.now);
+      step = try_already g.Coeff.Field.ops (g.E.Encoding.lists s.encoding) s.graph s.degree s.infeasible c.args.i c.args.j _ _ e.0 e.1 e.2 c.args.degree c.if-degree-lt-FIRST_DEGREE.false c.if-degree-gt-LAST_DEGREE.false (sym c.joins.ensures ∙ c.if-joins.true) (memory c.args.table.now c.args.certificate.now);
       same = solver_back s s.graph _ refl;
     }
 
-pub returns-in-err-verdict : goal.returns-in-err-verdict
-returns-in-err-verdict g c =
+pub returns-in_err-verdict : goal.returns-in_err-verdict
+returns-in_err-verdict g c =
     let s = c.args.self.now in
-    let e = c.in-ok-edge.ensures in
+    let e = c.in_ok-edge.ensures in
     let t = c.begin-trial.result in
-    let edge = c.in-ok-edge.edge in
+    let edge = c.in_ok-edge.edge in
     let there = subst (λ (h : Graph). Marked s.graph edge.lower edge.higher true h) (sym c.graph.ensures) c.begin-trial.ensures.pairs in
     let again = back s.graph t.graph.now c.drop-trial.new.self.0 edge.lower edge.higher true t.lower t.saved c.begin-trial.ensures.rows c.drop-trial.ensures.vertices c.drop-trial.ensures.rows c.begin-trial.ensures.lower c.begin-trial.ensures.saved in
     let end = ap (λ (h : Graph). state h.vertices (joined h) s.degree s.infeasible) (sym again) in
-    let p = err_from_is_err_and c.from-residual-in-err-verdict.result c.from-residual-in-err-verdict.ensures.1 in
-    let w = c.in-err-verdict.ensures in
+    let p = err_from_is_err_and c.from_residual-in_err-verdict.result c.from_residual-in_err-verdict.ensures.1 in
+    let w = c.in_err-verdict.ensures in
     record {
-      step = rw (p.1, p.2) (step_as (try_unworked g.Coeff.Field.ops (g.E.Encoding.lists s.encoding) s.graph s.degree s.infeasible c.args.i c.args.j edge.lower edge.higher e.0 e.1 e.2 c.args.degree c.if-degree-lt-FIRST-DEGREE.false c.if-degree-gt-LAST-DEGREE.false c.graph.result.now there (memory c.args.table.now c.args.certificate.now) _ _ (sym c.joins.ensures ∙ c.if-joins.false) w.0 w.1) refl end);
+      step = rw (p.1, p.2) (step_as (try_unworked g.Coeff.Field.ops (g.E.Encoding.lists s.encoding) s.graph s.degree s.infeasible c.args.i c.args.j edge.lower edge.higher e.0 e.1 e.2 c.args.degree c.if-degree-lt-FIRST_DEGREE.false c.if-degree-gt-LAST_DEGREE.false c.graph.result.now there (memory c.args.table.now c.args.certificate.now) _ _ (sym c.joins.ensures ∙ c.if-joins.false) w.0 w.1) refl end);
       same = solver_back s c.drop-trial.new.self.0 _ again;
     }
 
 pub returns : goal.returns
 returns g c =
     let s = c.args.self.now in
-    let e = c.in-ok-edge.ensures in
+    let e = c.in_ok-edge.ensures in
     let t = c.begin-trial.result in
-    let edge = c.in-ok-edge.edge in
+    let edge = c.in_ok-edge.edge in
     let there = subst (λ (h : Graph). Marked s.graph edge.lower edge.higher true h) (sym c.graph.ensures) c.begin-trial.ensures.pairs in
     let again = back s.graph t.graph.now c.drop-trial-2.new.self.0 edge.lower edge.higher true t.lower t.saved c.begin-trial.ensures.rows c.drop-trial-2.ensures.vertices c.drop-trial-2.ensures.rows c.begin-trial.ensures.lower c.begin-trial.ensures.saved in
     let end = ap (λ (h : Graph). state h.vertices (joined h) s.degree s.infeasible) (sym again) in
-    let w = c.in-ok-verdict.ensures in
+    let w = c.in_ok-verdict.ensures in
     record {
-      step = step_as (try_worked g.Coeff.Field.ops (g.E.Encoding.lists s.encoding) s.graph s.degree s.infeasible c.args.i c.args.j edge.lower edge.higher e.0 e.1 e.2 c.args.degree c.if-degree-lt-FIRST-DEGREE.false c.if-degree-gt-LAST-DEGREE.false c.graph.result.now there (memory c.args.table.now c.args.certificate.now) c.in-ok-verdict.verdict _ (sym c.joins.ensures ∙ c.if-joins.false) w.0 w.1) refl end;
+      step = step_as (try_worked g.Coeff.Field.ops (g.E.Encoding.lists s.encoding) s.graph s.degree s.infeasible c.args.i c.args.j edge.lower edge.higher e.0 e.1 e.2 c.args.degree c.if-degree-lt-FIRST_DEGREE.false c.if-degree-gt-LAST_DEGREE.false c.graph.result.now there (memory c.args.table.now c.args.certificate.now) c.in_ok-verdict.verdict _ (sym c.joins.ensures ∙ c.if-joins.false) w.0 w.1) refl end;
       same = solver_back s c.drop-trial-2.new.self.0 _ again;
     }

@@ -3,8 +3,8 @@ use Rattle.graphs.specs.Graph.{joined}
 use Rattle.coloring.specs.Added.{added_length, chosen_roomy, triangles_few}
 use Rattle.coloring.proofs.encoding.triangles.TrianglesEncoding.count.Goals as goal
 
-pub overflow-add-result : goal.overflow-add-result
-overflow-add-result g c =
+pub overflow_add-result : goal.overflow_add-result
+overflow_add-result g c =
     let n = c.args.graph.now.vertices in
     let f = joined c.args.graph.now in
     let law = g.met.E.Encoding.bounded c.args.self.now.base in

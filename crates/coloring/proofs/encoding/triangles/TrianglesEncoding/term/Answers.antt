@@ -18,7 +18,7 @@ returns-in-Some g c =
     let f = joined c.args.graph.now in
     let base = c.args.self.now.base in
     let e = added_squares g.E.Coeff.Field.ops.one (g.E.Encoding.lists base n f) (g.E.Encoding.high base) n f c.args.equation c.count-below.result c.in-Some.triangle c.count-below.ensures (omega arith) (sym c.in-Some.ensures.value) in
-    c.squares-term.ensures ∙ ap (λ z. get_or z c.args.index (absent g.E.Coeff.Field.ops)) (sym e)
+    c.squares_term.ensures ∙ ap (λ z. get_or z c.args.index (absent g.E.Coeff.Field.ops)) (sym e)
 
 pub returns-in-None : goal.returns-in-None
 returns-in-None g c =
@@ -26,4 +26,4 @@ returns-in-None g c =
     let f = joined c.args.graph.now in
     let base = c.args.self.now.base in
     let e = added_past g.E.Coeff.Field.ops.one (g.E.Encoding.lists base n f) (g.E.Encoding.high base) n f c.args.equation c.count-below.result c.count-below.ensures (omega arith) (sym c.in-None.ensures.value) in
-    c.no-term.ensures ∙ ap (λ z. get_or z c.args.index (absent g.E.Coeff.Field.ops)) (sym e)
+    c.no_term.ensures ∙ ap (λ z. get_or z c.args.index (absent g.E.Coeff.Field.ops)) (sym e)
