@@ -13,7 +13,7 @@ pub use grid::Grid;
 fn read_cell<F: Field>(cells: &[F], cols: usize, row: usize, col: usize) -> F
     requires row { row * cols + cols ≤ length cells.now }
     requires column { col < cols }
-    ensures { result ≡ cell ops cells.now cols row col }
+    ensures { result ≡ cell F.ops cells.now cols row col }
 {
     cells[row * cols + col]
 }
@@ -30,7 +30,7 @@ fn write_cell<F: Field>(cells: &mut [F], cols: usize, row: usize, col: usize, x:
 // Writes zero into each cell of the grid.
 fn clear<F: Field>(cells: &mut [F], rows: usize, cols: usize)
     requires { rows * cols ≤ length cells.old }
-    ensures { Blank ops (rows * cols) cells.old cells.new }
+    ensures { Blank F.ops (rows * cols) cells.old cells.new }
 {
     for i in 0..rows * cols {
         cells[i] = F::zero();
@@ -50,8 +50,8 @@ fn add_multiple<F: Field>(
     requires source { from * cols + cols ≤ length cells.old }
     requires target { to * cols + cols ≤ length cells.old }
     requires column { first < cols }
-    requires blank { (c : ℕ) → c < first → cell ops cells.old cols from c ≡ ops.zero }
-    ensures { Added ops cols from to factor cells.old cells.new }
+    requires blank { (c : ℕ) → c < first → cell F.ops cells.old cols from c ≡ F.ops.zero }
+    ensures { Added F.ops cols from to factor cells.old cells.new }
 {
     for c in first..cols {
         let x = cells[to * cols + c];
@@ -64,7 +64,7 @@ fn add_multiple<F: Field>(
 fn swap_rows<F: Field>(cells: &mut [F], cols: usize, a: usize, b: usize)
     requires a_within { a * cols + cols ≤ length cells.old }
     requires b_within { b * cols + cols ≤ length cells.old }
-    ensures { Swapped ops cols a b cells.old cells.new }
+    ensures { Swapped F.ops cols a b cells.old cells.new }
 {
     for c in 0..cols {
         cells.swap(a * cols + c, b * cols + c);
@@ -74,7 +74,7 @@ fn swap_rows<F: Field>(cells: &mut [F], cols: usize, a: usize, b: usize)
 // Multiplies the row `row` by `factor`.
 fn scale_row<F: Field>(cells: &mut [F], cols: usize, row: usize, factor: F)
     requires { row * cols + cols ≤ length cells.old }
-    ensures { Scaled ops cols row factor cells.old cells.new }
+    ensures { Scaled F.ops cols row factor cells.old cells.new }
 {
     for c in 0..cols {
         let x = cells[row * cols + c];
@@ -92,7 +92,7 @@ fn find_pivot<F: Field>(
 ) -> Option<usize>
     requires within { rows * cols ≤ length cells.now }
     requires column { col < cols }
-    ensures { MatchOption result (AllZero ops cells.now cols from rows col) (λ i. FirstNonzero ops cells.now cols from rows col i) }
+    ensures { MatchOption result (AllZero F.ops cells.now cols from rows col) (λ i. FirstNonzero F.ops cells.now cols from rows col i) }
 {
     for i in from..rows {
         let x = cells[i * cols + col];
@@ -110,8 +110,8 @@ fn clear_cell<F: Field>(cells: &mut [F], cols: usize, first: usize, from: usize,
     requires source { from * cols + cols ≤ length cells.old }
     requires target { to * cols + cols ≤ length cells.old }
     requires column { first < cols }
-    requires blank { (c : ℕ) → c < first → cell ops cells.old cols from c ≡ ops.zero }
-    ensures { Added ops cols from to (cell ops cells.old cols to first) cells.old cells.new }
+    requires blank { (c : ℕ) → c < first → cell F.ops cells.old cols from c ≡ F.ops.zero }
+    ensures { Added F.ops cols from to (cell F.ops cells.old cols to first) cells.old cells.new }
 {
     let factor = cells[to * cols + first];
     if factor.code() != 0 {
@@ -133,9 +133,9 @@ fn clear_rows<F: Field>(
     requires source { row * cols + cols ≤ length cells.old }
     requires targets { high * cols ≤ length cells.old }
     requires column { col < cols }
-    requires blank { (c : ℕ) → c < col → cell ops cells.old cols row c ≡ ops.zero }
-    requires one { cell ops cells.old cols row col ≡ ops.one }
-    ensures { ClearedRows ops cols row col low high cells.old cells.new }
+    requires blank { (c : ℕ) → c < col → cell F.ops cells.old cols row c ≡ F.ops.zero }
+    requires one { cell F.ops cells.old cols row col ≡ F.ops.one }
+    ensures { ClearedRows F.ops cols row col low high cells.old cells.new }
 {
     for i in low..high {
         clear_cell(cells, cols, col, row, i);
@@ -148,9 +148,9 @@ fn clear_column<F: Field>(cells: &mut [F], rows: usize, cols: usize, row: usize,
     requires within { rows * cols ≤ length cells.old }
     requires row { row < rows }
     requires column { col < cols }
-    requires blank { (c : ℕ) → c < col → cell ops cells.old cols row c ≡ ops.zero }
-    requires one { cell ops cells.old cols row col ≡ ops.one }
-    ensures { Cleared ops rows cols row col cells.old cells.new }
+    requires blank { (c : ℕ) → c < col → cell F.ops cells.old cols row c ≡ F.ops.zero }
+    requires one { cell F.ops cells.old cols row col ≡ F.ops.one }
+    ensures { Cleared F.ops rows cols row col cells.old cells.new }
 {
     clear_rows(cells, cols, row, col, 0, row);
     clear_rows(cells, cols, row, col, row + 1, rows);
@@ -166,9 +166,9 @@ fn reduce_column<F: Field>(
 ) -> bool
     requires within { rows * cols ≤ length cells.old }
     requires column { col < cols }
-    requires blank { (r c : ℕ) → rank ≤ r → r < rows → c < col → cell ops cells.old cols r c ≡ ops.zero }
-    ensures found { result ≡ true → Pivoted ops rows cols rank col cells.old cells.new }
-    ensures none { result ≡ false → (cells.new ≡ cells.old) × AllZero ops cells.old cols rank rows col }
+    requires blank { (r c : ℕ) → rank ≤ r → r < rows → c < col → cell F.ops cells.old cols r c ≡ F.ops.zero }
+    ensures found { result ≡ true → Pivoted F.ops rows cols rank col cells.old cells.new }
+    ensures none { result ≡ false → (cells.new ≡ cells.old) × AllZero F.ops cells.old cols rank rows col }
 {
     match find_pivot(cells, rows, cols, rank, col) {
         None => false,
@@ -185,7 +185,7 @@ fn reduce_column<F: Field>(
 // Brings the rows into reduced form; returns how many are not zero.
 fn eliminate<F: Field>(cells: &mut [F], rows: usize, cols: usize) -> usize
     requires { Fits rows cols (length cells.old) }
-    ensures { Eliminated ops rows cols result cells.old cells.new }
+    ensures { Eliminated F.ops rows cols result cells.old cells.new }
 {
     let mut rank = 0;
     for col in 0..cols {
@@ -208,8 +208,8 @@ fn begins_at<F: Field>(
     requires within { rows * cols ≤ length cells.now }
     requires rank { rank ≤ rows }
     requires column { col < cols }
-    ensures yes { result ≡ true → (row < rank) × (cell ops cells.now cols row col ≢ ops.zero) }
-    ensures no { result ≡ false → row < rank → cell ops cells.now cols row col ≡ ops.zero }
+    ensures yes { result ≡ true → (row < rank) × (cell F.ops cells.now cols row col ≢ F.ops.zero) }
+    ensures no { result ≡ false → row < rank → cell F.ops cells.now cols row col ≡ F.ops.zero }
 {
     if row >= rank {
         return false;
@@ -224,8 +224,8 @@ fn begins_at<F: Field>(
 fn read_solution<F: Field>(cells: &mut [F], rows: usize, cols: usize, rank: usize) -> bool
     requires fits { Fits rows cols (length cells.old) }
     requires rank { rank ≤ rows }
-    ensures kept { Kept ops (cols - 1) cells.old cells.new }
-    ensures read { (pivot : ℕ → ℕ) → Reduced ops rows cols rank pivot (cell ops cells.old cols) → Read ops rows cols rank pivot cells.old cells.new result }
+    ensures kept { Kept F.ops (cols - 1) cells.old cells.new }
+    ensures read { (pivot : ℕ → ℕ) → Reduced F.ops rows cols rank pivot (cell F.ops cells.old cols) → Read F.ops rows cols rank pivot cells.old cells.new result }
 {
     let last = cols - 1;
     let mut row = 0;
@@ -243,7 +243,7 @@ fn read_solution<F: Field>(cells: &mut [F], rows: usize, cols: usize, rank: usiz
 // Writes over the first row the coefficients by which the other columns give the last; false where they do not.
 fn solve<F: Field>(cells: &mut [F], rows: usize, cols: usize) -> bool
     requires { Fits rows cols (length cells.old) }
-    ensures { Solved ops rows cols cells.old cells.new result }
+    ensures { Solved F.ops rows cols cells.old cells.new result }
 {
     let rank = eliminate(cells, rows, cols);
     read_solution(cells, rows, cols, rank)

@@ -43,7 +43,7 @@ fn admit<E: Encoding>(
     certificate: &[u8],
     elements: usize,
 ) -> Result<Sizes, Refusal>
-    ensures { MatchResult result (λ z. Admitted Coeff-as-Field.ops.size graph.now.vertices (length (over (E.Encoding.lists encoding.now) graph.now)) certificate.now elements z) (λ e. First (checking Coeff-as-Field.ops.size graph.now.vertices (length (over (E.Encoding.lists encoding.now) graph.now)) certificate.now elements) e) }
+    ensures { MatchResult result (λ z. Admitted E.Coeff.ops.size graph.now.vertices (length (over (E.lists encoding.now) graph.now)) certificate.now elements z) (λ e. First (checking E.Coeff.ops.size graph.now.vertices (length (over (E.lists encoding.now) graph.now)) certificate.now elements) e) }
 {
     let order = <E::Coeff as Field>::order();
     let degree = head(order, graph.vertices(), encoding.count(graph), certificate)?;
@@ -72,7 +72,7 @@ pub fn check<E: Encoding>(
     certificate: &[u8],
     table: &mut [E::Coeff],
 ) -> Result<(), Refusal>
-    ensures { Checks E.Coeff.Field.ops graph.now.vertices (over (E.Encoding.lists encoding.now) graph.now) certificate.now table.old result table.new }
+    ensures { Checks E.Coeff.ops graph.now.vertices (over (E.lists encoding.now) graph.now) certificate.now table.old result table.new }
 {
     let sizes = admit(encoding, graph, certificate, table.len())?;
     let rows = sizes.rows;

@@ -61,13 +61,13 @@ fn add_product<E: Encoding>(
 )
     requires narrow { degree ≤ 48 }
     requires small { count graph.now.vertices (degree + 3) ≤ 1000000 }
-    requires listed { equation < length (over (E.Encoding.lists encoding.now) graph.now) }
+    requires listed { equation < length (over (E.lists encoding.now) graph.now) }
     requires monomial { Monomial graph.now.vertices degree monomial }
     requires room { Roomy grid.old }
     requires rows { grid.old.rows ≡ count graph.now.vertices (degree + 3) }
     requires column { column < grid.old.cols }
     ensures held { Held grid.old grid.new }
-    ensures summed { Summed E.Coeff.Field.ops graph.now.vertices degree grid.old.cols column (scaled E.Coeff.Field.ops factor (times monomial (slice_index_or (over (E.Encoding.lists encoding.now) graph.now) equation []))) (held grid.old) (held grid.new) }
+    ensures summed { Summed E.Coeff.ops graph.now.vertices degree grid.old.cols column (scaled E.Coeff.ops factor (times monomial (slice_index_or (over (E.lists encoding.now) graph.now) equation []))) (held grid.old) (held grid.new) }
 {
     let vertices = graph.vertices() as usize;
     for index in 0..encoding.terms(graph, equation) {
@@ -91,16 +91,16 @@ fn fill_equation<E: Encoding>(
 )
     requires narrow { degree ≤ 48 }
     requires small { count graph.now.vertices (degree + 3) ≤ 1000000 }
-    requires few { products graph.now.vertices degree (over (E.Encoding.lists encoding.now) graph.now) ≤ 1000000 }
+    requires few { products graph.now.vertices degree (over (E.lists encoding.now) graph.now) ≤ 1000000 }
     requires multipliers { multipliers ≡ count graph.now.vertices degree }
-    requires listed { equation < length (over (E.Encoding.lists encoding.now) graph.now) }
+    requires listed { equation < length (over (E.lists encoding.now) graph.now) }
     requires room { Roomy grid.old }
     requires rows { grid.old.rows ≡ count graph.now.vertices (degree + 3) }
-    requires columns { grid.old.cols ≡ products graph.now.vertices degree (over (E.Encoding.lists encoding.now) graph.now) + 1 }
-    requires begun { Begun E.Coeff.Field.ops graph.now.vertices degree (over (E.Encoding.lists encoding.now) graph.now) (equation * multipliers) (held grid.old) }
+    requires columns { grid.old.cols ≡ products graph.now.vertices degree (over (E.lists encoding.now) graph.now) + 1 }
+    requires begun { Begun E.Coeff.ops graph.now.vertices degree (over (E.lists encoding.now) graph.now) (equation * multipliers) (held grid.old) }
     ensures held { Held grid.old grid.new }
-    ensures kept { Kept E.Coeff.Field.ops (grid.old.rows * grid.old.cols) (held grid.old) (held grid.new) }
-    ensures begun { Begun E.Coeff.Field.ops graph.now.vertices degree (over (E.Encoding.lists encoding.now) graph.now) ((equation + 1) * multipliers) (held grid.new) }
+    ensures kept { Kept E.Coeff.ops (grid.old.rows * grid.old.cols) (held grid.old) (held grid.new) }
+    ensures begun { Begun E.Coeff.ops graph.now.vertices degree (over (E.lists encoding.now) graph.now) ((equation + 1) * multipliers) (held grid.new) }
 {
     let vertices = graph.vertices() as usize;
     for rank in 0..multipliers {
@@ -122,14 +122,14 @@ fn fill_equation<E: Encoding>(
 // polynomial one.
 fn fill<E: Encoding>(encoding: &E, graph: &Graph, sizes: Sizes, grid: &mut Grid<'_, E::Coeff>)
     requires narrow { sizes.degree ≤ 48 }
-    requires measured { Measured (length (over (E.Encoding.lists encoding.now) graph.now)) graph.now.vertices sizes.degree sizes }
+    requires measured { Measured (length (over (E.lists encoding.now) graph.now)) graph.now.vertices sizes.degree sizes }
     requires room { Roomy grid.old }
     requires rows { grid.old.rows ≡ sizes.rows }
     requires columns { grid.old.cols ≡ sizes.products + 1 }
-    requires blank { (k : ℕ) → k < grid.old.rows * grid.old.cols → slice_index_or (held grid.old) k E.Coeff.Field.ops.zero ≡ E.Coeff.Field.ops.zero }
+    requires blank { (k : ℕ) → k < grid.old.rows * grid.old.cols → slice_index_or (held grid.old) k E.Coeff.ops.zero ≡ E.Coeff.ops.zero }
     ensures held { Held grid.old grid.new }
-    ensures kept { Kept E.Coeff.Field.ops (grid.old.rows * grid.old.cols) (held grid.old) (held grid.new) }
-    ensures filled { Filled E.Coeff.Field.ops graph.now.vertices sizes.degree (over (E.Encoding.lists encoding.now) graph.now) (held grid.new) }
+    ensures kept { Kept E.Coeff.ops (grid.old.rows * grid.old.cols) (held grid.old) (held grid.new) }
+    ensures filled { Filled E.Coeff.ops graph.now.vertices sizes.degree (over (E.lists encoding.now) graph.now) (held grid.new) }
 {
     for equation in 0..sizes.equations {
         fill_equation(
@@ -148,10 +148,10 @@ fn fill<E: Encoding>(encoding: &E, graph: &Graph, sizes: Sizes, grid: &mut Grid<
 // stand in front of the table.
 fn solve<E: Encoding>(encoding: &E, graph: &Graph, sizes: Sizes, table: &mut [E::Coeff]) -> bool
     requires narrow { sizes.degree ≤ 48 }
-    requires measured { Measured (length (over (E.Encoding.lists encoding.now) graph.now)) graph.now.vertices sizes.degree sizes }
+    requires measured { Measured (length (over (E.lists encoding.now) graph.now)) graph.now.vertices sizes.degree sizes }
     requires room { sizes.cells ≤ length table.old }
-    ensures decided { Decided E.Coeff.Field.ops graph.now.vertices sizes.degree (over (E.Encoding.lists encoding.now) graph.now) table.new result }
-    ensures kept { Kept E.Coeff.Field.ops sizes.cells table.old table.new }
+    ensures decided { Decided E.Coeff.ops graph.now.vertices sizes.degree (over (E.lists encoding.now) graph.now) table.new result }
+    ensures kept { Kept E.Coeff.ops sizes.cells table.old table.new }
 {
     let mut grid = Grid::new(table, sizes.rows, sizes.products + 1);
     grid.clear();

@@ -39,7 +39,7 @@ pub struct Sizes {
 // The sizes, where neither rows nor products pass the limit.
 pub(crate) fn measure<E: Encoding>(encoding: &E, graph: &Graph, degree: u8) -> Option<Sizes>
     requires { degree ≤ 48 }
-    ensures { MatchOption result (Excess (length (over (E.Encoding.lists encoding.now) graph.now)) graph.now.vertices degree) (λ z. Measured (length (over (E.Encoding.lists encoding.now) graph.now)) graph.now.vertices degree z) }
+    ensures { MatchOption result (Excess (length (over (E.lists encoding.now) graph.now)) graph.now.vertices degree) (λ z. Measured (length (over (E.lists encoding.now) graph.now)) graph.now.vertices degree z) }
 {
     let vertices = graph.vertices();
     let Some(rows) = monomials::count(vertices as usize, degree as usize + EQUATION_DEGREE) else {
@@ -79,7 +79,7 @@ pub fn fit<E: Encoding>(
     elements: usize,
     bytes: usize,
 ) -> Result<Sizes, Refusal>
-    ensures { MatchResult result (λ z. Fitted (length (over (E.Encoding.lists encoding.now) graph.now)) graph.now.vertices degree elements bytes z) (λ e. First (limit degree ++ room (length (over (E.Encoding.lists encoding.now) graph.now)) graph.now.vertices degree elements bytes) e) }
+    ensures { MatchResult result (λ z. Fitted (length (over (E.lists encoding.now) graph.now)) graph.now.vertices degree elements bytes z) (λ e. First (limit degree ++ room (length (over (E.lists encoding.now) graph.now)) graph.now.vertices degree elements bytes) e) }
 {
     if degree > LAST_DEGREE {
         return Err(Refusal::LastDegree);

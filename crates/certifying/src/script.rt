@@ -75,7 +75,7 @@ pub fn reply_to<E: Encoding>(
     table: &mut [E::Coeff],
     certificate: &mut [u8],
 ) -> Reply
-    ensures replied { Replied E.Coeff.Field.ops (lists solver.old.encoding) line.now (length given.old) (state_of solver.old) (memory table.old certificate.old) result (state_of solver.new) (memory table.new certificate.new) }
+    ensures replied { Replied E.Coeff.ops (E.lists solver.old.encoding) line.now (length given.old) (state_of solver.old) (memory table.old certificate.old) result (state_of solver.new) (memory table.new certificate.new) }
     ensures holds { Holds line.now given.old given.new }
     ensures encoding { solver.new.encoding ≡ solver.old.encoding }
 {

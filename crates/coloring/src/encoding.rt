@@ -38,11 +38,11 @@ pub trait Encoding {
 
     /// A term of an equation; zero where there is no such term.
     fn term(&self, graph: &Graph, equation: usize, index: usize) -> Term<Self::Coeff>
-        ensures { result ≡ slice_index_or (slice_index_or (over (lists self.now) graph.now) equation []) index (absent Self.Coeff.Field.ops) };
+        ensures { result ≡ slice_index_or (slice_index_or (over (lists self.now) graph.now) equation []) index (absent Self.Coeff.ops) };
 
-    ghost bounded: { (s : Self) → Bounded Self.Coeff.Field.ops (lists s) (high s) };
+    ghost bounded: { (s : Self) → Bounded Self.Coeff.ops (lists s) (high s) };
 
-    ghost lawful: { (s : Self) → Lawful Self.Coeff.Field.ops (lists s) };
+    ghost lawful: { (s : Self) → Lawful Self.Coeff.ops (lists s) };
 }
 
 /// The exponents of one variable to a power.
@@ -67,7 +67,7 @@ fn product(i: u8, j: u8) -> [u8; 24]
 
 /// A monomial with the coefficient one.
 fn monomial<F: Field>(exponents: [u8; 24]) -> Term<F>
-    ensures { result ≡ record { coeff = F.Field.ops.one; exponents = exponents } }
+    ensures { result ≡ record { coeff = F.ops.one; exponents = exponents } }
 {
     Term {
         coeff: F::one(),
@@ -77,7 +77,7 @@ fn monomial<F: Field>(exponents: [u8; 24]) -> Term<F>
 
 /// The term where there is none.
 fn no_term<F: Field>() -> Term<F>
-    ensures { result ≡ absent F.Field.ops }
+    ensures { result ≡ absent F.ops }
 {
     Term {
         coeff: F::zero(),

@@ -8,28 +8,28 @@ use fields::Field;
 
 /// A certificate shows that a graph has no proper coloring.
 pub fn certificates_exclude_colorings<E: Encoding>() -> u8
-    ensures { (s : E) → CertificatesExcludeColorings E.Coeff.Field.ops (E.Encoding.lists s) }
+    ensures { (s : E) → CertificatesExcludeColorings E.Coeff.ops (E.lists s) }
 {
     0
 }
 
 /// One more vertex or edge keeps a certificate.
 pub fn certificates_grow<E: Encoding>() -> u8
-    ensures { (s : E) → CertificatesGrow E.Coeff.Field.ops (E.Encoding.lists s) }
+    ensures { (s : E) → CertificatesGrow E.Coeff.ops (E.lists s) }
 {
     0
 }
 
 /// The plain equations are the same over every field, with all coefficients one.
 pub fn plain_alike<F: Field, G: Field>() -> u8
-    ensures { PlainAlike F.Field.ops G.Field.ops }
+    ensures { PlainAlike F.ops G.ops }
 {
     0
 }
 
 /// Encodings that are the same over two fields stay so with triangles added.
 pub fn triangles_alike<E: Encoding, D: Encoding>() -> u8
-    ensures { (s : E) (t : D) → TrianglesAlike Coeff-as-Field-1.ops Coeff-as-Field-2.ops (E.Encoding.lists s) (E.Encoding.high s) (D.Encoding.lists t) (D.Encoding.high t) }
+    ensures { (s : E) (t : D) → TrianglesAlike E.Coeff.ops D.Coeff.ops (E.lists s) (E.high s) (D.lists t) (D.high t) }
 {
     0
 }

@@ -37,13 +37,13 @@ impl<F: Field> Repeated<F> {
 impl<F: Field> Encoding for Repeated<F> {
     type Coeff = F;
 
-    ghost lists = { λ _. twice (plain F.Field.ops.one) };
+    ghost lists = { λ _. twice (plain F.ops.one) };
 
     ghost high = { λ _. 600 };
 
-    ghost bounded = { λ s. twice_bounded F.Field.ops (plain F.Field.ops.one) 300 (lit≤ tt) (plain_bounded F.Field.ops F.Field.laws) };
+    ghost bounded = { λ s. twice_bounded F.ops (plain F.ops.one) 300 (lit≤ tt) (plain_bounded F.ops F.laws) };
 
-    ghost lawful = { λ s. twice_lawful F.Field.ops (plain F.Field.ops.one) (plain_lawful F.Field.ops F.Field.laws) };
+    ghost lawful = { λ s. twice_lawful F.ops (plain F.ops.one) (plain_lawful F.ops F.laws) };
 
     fn most(&self) -> usize {
         2 * self.plain.most()

@@ -7,7 +7,7 @@ use fields::Field;
 /// What is written stands for the coefficients that it was written for, and well-formed bytes stand for one certificate
 /// and are what is written for it.
 pub fn bytes_stand<F: Field>() -> u8
-    ensures { BytesInverse F.Field.ops }
+    ensures { BytesInverse F.ops }
 {
     0
 }

@@ -21,7 +21,7 @@ const MOST_EQUATIONS: usize = 65_535;
 
 // Whether a product is there and has a coefficient that is not zero.
 fn stands<F: Field>(coefficients: &[F], product: usize) -> bool
-    ensures { result ≡ present ops (length coefficients.now) (λ k. slice_index_or coefficients.now k ops.zero) product }
+    ensures { result ≡ present F.ops (length coefficients.now) (λ k. slice_index_or coefficients.now k F.ops.zero) product }
 {
     if product < coefficients.len() {
         coefficients[product].code() != 0
@@ -33,7 +33,7 @@ fn stands<F: Field>(coefficients: &[F], product: usize) -> bool
 // The byte of the map for the eight products from 8 times `place` on.
 fn map_byte<F: Field>(coefficients: &[F], place: usize) -> u8
     requires { 8 * place + 8 < 2 ^ 64 }
-    ensures { result ≡ bits ops (length coefficients.now) (λ k. slice_index_or coefficients.now k ops.zero) place 8 }
+    ensures { result ≡ bits F.ops (length coefficients.now) (λ k. slice_index_or coefficients.now k F.ops.zero) place 8 }
 {
     let mut byte = 0u8;
     for k in 0..8 {
@@ -62,7 +62,7 @@ fn write_head(order: u8, vertices: u8, degree: u8, equations: usize, certificate
 fn write_map<F: Field>(coefficients: &[F], certificate: &mut [u8])
     requires few { length coefficients.now ≤ 1000000 }
     requires room { 6 + map_bytes (length coefficients.now) ≤ length certificate.old }
-    ensures { (done before : List ℕ) → length done ≡ 6 → Wrote done before certificate.old → Wrote (done ++ map_of ops (length coefficients.now) (λ k. slice_index_or coefficients.now k ops.zero)) before certificate.new }
+    ensures { (done before : List ℕ) → length done ≡ 6 → Wrote done before certificate.old → Wrote (done ++ map_of F.ops (length coefficients.now) (λ k. slice_index_or coefficients.now k F.ops.zero)) before certificate.new }
 {
     for place in 0..(coefficients.len() + 7) / 8 {
         certificate[HEAD + place] = map_byte(coefficients, place);
@@ -72,7 +72,7 @@ fn write_map<F: Field>(coefficients: &[F], certificate: &mut [u8])
 // Writes the codes of the coefficients that are not zero from `start` on, and gives the place behind them.
 fn write_codes<F: Field>(coefficients: &[F], start: usize, certificate: &mut [u8]) -> usize
     requires { start + length coefficients.now ≤ length certificate.old }
-    ensures { (done before : List ℕ) → length done ≡ start → Wrote done before certificate.old → Ended result (done ++ codes_of ops (length coefficients.now) (λ k. slice_index_or coefficients.now k ops.zero)) before certificate.new }
+    ensures { (done before : List ℕ) → length done ≡ start → Wrote done before certificate.old → Ended result (done ++ codes_of F.ops (length coefficients.now) (λ k. slice_index_or coefficients.now k F.ops.zero)) before certificate.new }
 {
     let mut end = start;
     for x in coefficients {
@@ -94,7 +94,7 @@ pub fn write<F: Field>(
     equations: usize,
     certificate: &mut [u8],
 ) -> Option<usize>
-    ensures { Stored ops coefficients.now vertices degree equations certificate.old result certificate.new }
+    ensures { Stored F.ops coefficients.now vertices degree equations certificate.old result certificate.new }
 {
     let products = coefficients.len();
     if products > MOST_PRODUCTS || equations > MOST_EQUATIONS {

@@ -21,7 +21,7 @@ pub fn make_all<E: Encoding>(
     replies: &mut [Reply],
 ) -> usize
     ensures count { result ≡ min (length calls.now) (length replies.old) }
-    ensures replayed { Replayed E.Coeff.Field.ops (E.Encoding.lists solver.old.encoding) (map request_of (take result calls.now)) (state_of solver.old) (memory table.old certificate.old) (take result replies.new) (state_of solver.new) (memory table.new certificate.new) }
+    ensures replayed { Replayed E.Coeff.ops (E.lists solver.old.encoding) (map request_of (take result calls.now)) (state_of solver.old) (memory table.old certificate.old) (take result replies.new) (state_of solver.new) (memory table.new certificate.new) }
     ensures beyond { drop result replies.new ≡ drop result replies.old }
     ensures encoding { solver.new.encoding ≡ solver.old.encoding }
 {
@@ -46,10 +46,10 @@ pub fn replay<E: Encoding + Drop, D: Encoding + Drop>(
     other_replies: &mut [Reply],
 ) -> usize
     ensures count { result ≡ min (length calls.now) (min (length replies.old) (length other_replies.old)) }
-    ensures first { ReplayedNew Coeff-as-Field-1.ops (E.Encoding.lists first) (map request_of (take result calls.now)) (memory table.old certificate.old) (take result replies.new) (memory table.new certificate.new) }
-    ensures second { ReplayedNew Coeff-as-Field-2.ops (D.Encoding.lists second) (map request_of (take result calls.now)) (memory other_table.old other_certificate.old) (take result other_replies.new) (memory other_table.new other_certificate.new) }
+    ensures first { ReplayedNew E.Coeff.ops (E.lists first) (map request_of (take result calls.now)) (memory table.old certificate.old) (take result replies.new) (memory table.new certificate.new) }
+    ensures second { ReplayedNew D.Coeff.ops (D.lists second) (map request_of (take result calls.now)) (memory other_table.old other_certificate.old) (take result other_replies.new) (memory other_table.new other_certificate.new) }
     ensures beyond { (drop result replies.new ≡ drop result replies.old) × (drop result other_replies.new ≡ drop result other_replies.old) }
-    ensures whole { Whole Coeff-as-Field-1.ops Coeff-as-Field-2.ops (E.Encoding.lists first) (D.Encoding.lists second) }
+    ensures whole { Whole E.Coeff.ops D.Coeff.ops (E.lists first) (D.lists second) }
 {
     let count = calls.len().min(replies.len().min(other_replies.len()));
     let made = &calls[0..count];

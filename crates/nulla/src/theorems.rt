@@ -6,14 +6,14 @@ use coloring::encoding::Encoding;
 
 /// The rules give each call one reply, one state and one memory after it.
 pub fn one_outcome<E: Encoding>() -> u8
-    ensures { (s : E) → OneOutcome Coeff-as-Field.ops (E.Encoding.lists s) }
+    ensures { (s : E) → OneOutcome E.Coeff.ops (E.lists s) }
 {
     0
 }
 
 /// Infeasible means that a certificate exists and that no coloring is proper; open means that no certificate of the degree exists.
 pub fn verdicts_mean<E: Encoding>() -> u8
-    ensures { (s : E) → VerdictsMean Coeff-as-Field.ops (E.Encoding.lists s) }
+    ensures { (s : E) → VerdictsMean E.Coeff.ops (E.lists s) }
 {
     0
 }
@@ -21,7 +21,7 @@ pub fn verdicts_mean<E: Encoding>() -> u8
 /// Every list of calls on a new solver: the rules give each call one outcome, what the solver says is true after each, and only removing an
 /// edge takes infeasible back. Two new solvers over two fields, under encodings that are alike, answer one list alike.
 pub fn runs_stand<E: Encoding, D: Encoding>() -> u8
-    ensures { (s : E) (t : D) → Whole Coeff-as-Field-1.ops Coeff-as-Field-2.ops (E.Encoding.lists s) (D.Encoding.lists t) }
+    ensures { (s : E) (t : D) → Whole E.Coeff.ops D.Coeff.ops (E.lists s) (D.lists t) }
 {
     0
 }

@@ -78,7 +78,7 @@ pub fn reply_to<E: Encoding>(
     table: &mut [E::Coeff],
     certificate: &mut [u8],
 ) -> Reply
-    ensures turn { Turn Spells E.Coeff.Field.ops (lists solver.old.encoding) line.now (state_of solver.old) (memory table.old certificate.old) result (state_of solver.new) (memory table.new certificate.new) }
+    ensures turn { Turn Spells E.Coeff.ops (E.lists solver.old.encoding) line.now (state_of solver.old) (memory table.old certificate.old) result (state_of solver.new) (memory table.new certificate.new) }
     ensures encoding { solver.new.encoding ≡ solver.old.encoding }
 {
     match parse(line) {

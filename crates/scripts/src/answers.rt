@@ -22,7 +22,7 @@ pub fn answer_lines<E: Encoding>(
     certificate: &mut [u8],
 ) -> usize
     requires { (9 * length (lines_of script.now) ≤ length text.old) × (length script.now ≤ 2 * length given.old) }
-    ensures { Filled Asks E.Coeff.Field.ops (lists solver.old.encoding) script.now text.old (state_of solver.old) (memory table.old certificate.old) result text.new (memory table.new certificate.new) }
+    ensures { Filled Asks E.Coeff.ops (E.lists solver.old.encoding) script.now text.old (state_of solver.old) (memory table.old certificate.old) result text.new (memory table.new certificate.new) }
 {
     let mut at = 0;
     let mut used = 0;

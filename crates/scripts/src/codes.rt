@@ -6,7 +6,7 @@ use fields::Field;
 
 // The element that a byte counts as.
 fn element<F: Field>(byte: u8) -> F
-    ensures { CountsAs F.Field.ops byte result }
+    ensures { CountsAs F.ops byte result }
 {
     match F::from_code(byte) {
         Some(x) => x,
@@ -17,7 +17,7 @@ fn element<F: Field>(byte: u8) -> F
 /// Reads each byte as an element.
 pub fn read_codes<F: Field>(bytes: &[u8], elements: &mut [F])
     requires { length elements.old ≡ length bytes.now }
-    ensures { Read F.Field.ops bytes.now elements.new }
+    ensures { Read F.ops bytes.now elements.new }
 {
     for (k, byte) in bytes.iter().enumerate() {
         elements[k] = element(*byte);
@@ -27,7 +27,7 @@ pub fn read_codes<F: Field>(bytes: &[u8], elements: &mut [F])
 /// Writes the code of each element.
 pub fn write_codes<F: Field>(elements: &[F], bytes: &mut [u8])
     requires { length elements.now ≡ length bytes.old }
-    ensures { bytes.new ≡ codes_of F.Field.ops elements.now }
+    ensures { bytes.new ≡ codes_of F.ops elements.now }
 {
     for (k, x) in elements.iter().enumerate() {
         bytes[k] = x.code();

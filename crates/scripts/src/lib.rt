@@ -48,7 +48,7 @@ fn answer<E: Encoding + Drop>(
     text: &mut [u8],
 ) -> usize
     requires { (length script.now ≤ 65536) × ((room_of script.now ≤ length text.old) × (length elements.old ≡ length table.old)) }
-    ensures { Ran E.Coeff.Field.ops (lists encoding) script.now (lent table.old certificate.old text.old) result (lent table.new certificate.new text.new) }
+    ensures { Ran E.Coeff.ops (E.lists encoding) script.now (lent table.old certificate.old text.old) result (lent table.new certificate.new text.new) }
 {
     let mut solver = Solver::new(encoding);
     let mut given = [0u8; GIVEN];
@@ -68,7 +68,7 @@ fn answer_in<E: Encoding + Drop>(
     text: &mut [u8],
 ) -> usize
     requires { (length script.now ≤ 65536) × ((room_of script.now ≤ length text.old) × (length table.old ≤ length elements.old)) }
-    ensures { Ran E.Coeff.Field.ops (lists encoding) script.now (lent table.old certificate.old text.old) result (lent table.new certificate.new text.new) }
+    ensures { Ran E.Coeff.ops (E.lists encoding) script.now (lent table.old certificate.old text.old) result (lent table.new certificate.new text.new) }
 {
     let count = table.len();
     answer(
@@ -91,7 +91,7 @@ fn answer_in_array<E: Encoding + Drop>(
     text: &mut [u8],
 ) -> usize
     requires { (length script.now ≤ 65536) × ((room_of script.now ≤ length text.old) × (length table.old ≤ 1048576)) }
-    ensures { Ran E.Coeff.Field.ops (lists encoding) script.now (lent table.old certificate.old text.old) result (lent table.new certificate.new text.new) }
+    ensures { Ran E.Coeff.ops (E.lists encoding) script.now (lent table.old certificate.old text.old) result (lent table.new certificate.new text.new) }
 {
     answer_in(encoding, script, elements, table, certificate, text)
 }
@@ -105,7 +105,7 @@ fn run_over_bits<E: Encoding<Coeff = Bit> + Drop>(
     text: &mut [u8],
 ) -> usize
     requires { (length script.now ≤ 65536) × ((room_of script.now ≤ length text.old) × (length table.old ≤ 1048576)) }
-    ensures { Ran bit_ops (lists encoding) script.now (lent table.old certificate.old text.old) result (lent table.new certificate.new text.new) }
+    ensures { Ran bit_ops (E.lists encoding) script.now (lent table.old certificate.old text.old) result (lent table.new certificate.new text.new) }
 {
     let mut elements = [Bit::zero(); LARGEST_TABLE];
     answer_in_array(encoding, script, &mut elements, table, certificate, text)
@@ -120,7 +120,7 @@ fn run_over_four<E: Encoding<Coeff = Four> + Drop>(
     text: &mut [u8],
 ) -> usize
     requires { (length script.now ≤ 65536) × ((room_of script.now ≤ length text.old) × (length table.old ≤ 1048576)) }
-    ensures { Ran four_ops (lists encoding) script.now (lent table.old certificate.old text.old) result (lent table.new certificate.new text.new) }
+    ensures { Ran four_ops (E.lists encoding) script.now (lent table.old certificate.old text.old) result (lent table.new certificate.new text.new) }
 {
     let mut elements = [Four::zero(); LARGEST_TABLE];
     answer_in_array(encoding, script, &mut elements, table, certificate, text)

@@ -40,7 +40,7 @@ impl<'a, F: Field> Grid<'a, F> {
 
     /// The cell of a row and a column; zero where the grid has none.
     pub fn get(&self, row: usize, col: usize) -> F
-        ensures { Got ops self.now row col result }
+        ensures { Got F.ops self.now row col result }
     {
         if row < self.rows && col < self.cols && self.fits() {
             read_cell(self.cells, self.cols, row, col)
@@ -63,7 +63,7 @@ impl<'a, F: Field> Grid<'a, F> {
     /// Makes each cell of the grid zero.
     pub fn clear(&mut self)
         ensures held { Held self.old self.new }
-        ensures done { Roomy self.old → BlankGrid ops self.old self.new }
+        ensures done { Roomy self.old → BlankGrid F.ops self.old self.new }
         ensures refused { (Roomy self.old → ⊥) → Untouched self.old self.new }
     {
         if self.fits() {
@@ -76,7 +76,7 @@ impl<'a, F: Field> Grid<'a, F> {
     /// Brings the rows into reduced form, and returns their rank.
     pub fn eliminate(&mut self) -> usize
         ensures held { Held self.old self.new }
-        ensures done { Roomy self.old → EliminatedGrid ops self.old self.new result }
+        ensures done { Roomy self.old → EliminatedGrid F.ops self.old self.new result }
         ensures refused { (Roomy self.old → ⊥) → (result ≡ 0) × Untouched self.old self.new }
     {
         if !self.fits() {
@@ -91,8 +91,8 @@ impl<'a, F: Field> Grid<'a, F> {
     /// false where they do not.
     pub fn read_solution(&mut self, rank: usize) -> bool
         ensures held { Held self.old self.new }
-        ensures done { Roomy self.old → ReadGrid ops self.old self.new rank result }
-        ensures kept { Kept ops (self.old.cols - 1) (held self.old) (held self.new) }
+        ensures done { Roomy self.old → ReadGrid F.ops self.old self.new rank result }
+        ensures kept { Kept F.ops (self.old.cols - 1) (held self.old) (held self.new) }
         ensures refused { (Roomy self.old → rank ≤ self.old.rows → ⊥) → (result ≡ false) × Untouched self.old self.new }
     {
         if rank > self.rows || !self.fits() {
@@ -106,7 +106,7 @@ impl<'a, F: Field> Grid<'a, F> {
     /// Writes over the first row the coefficients by which the other columns give the last; false where they do not.
     pub fn solve(&mut self) -> bool
         ensures held { Held self.old self.new }
-        ensures done { Roomy self.old → SolvedGrid ops self.old self.new result }
+        ensures done { Roomy self.old → SolvedGrid F.ops self.old self.new result }
         ensures refused { (Roomy self.old → ⊥) → (result ≡ false) × Untouched self.old self.new }
     {
         if !self.fits() {

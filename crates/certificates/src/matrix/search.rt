@@ -26,11 +26,11 @@ fn seek<E: Encoding>(
     certificate: &mut [u8],
 ) -> Option<usize>
     requires narrow { sizes.degree ≤ 48 }
-    requires measured { Measured (length (over (E.Encoding.lists encoding.now) graph.now)) graph.now.vertices sizes.degree sizes }
+    requires measured { Measured (length (over (E.lists encoding.now) graph.now)) graph.now.vertices sizes.degree sizes }
     requires table { sizes.cells ≤ length table.old }
     requires bytes { sizes.bytes ≤ length certificate.old }
-    ensures sought { Sought E.Coeff.Field.ops graph.now.vertices sizes.degree (over (E.Encoding.lists encoding.now) graph.now) certificate.old result certificate.new }
-    ensures kept { Kept E.Coeff.Field.ops sizes.cells table.old table.new }
+    ensures sought { Sought E.Coeff.ops graph.now.vertices sizes.degree (over (E.lists encoding.now) graph.now) certificate.old result certificate.new }
+    ensures kept { Kept E.Coeff.ops sizes.cells table.old table.new }
 {
     if !solve(encoding, graph, sizes, table) {
         return None;
@@ -50,7 +50,7 @@ pub(crate) fn wipe<F: Field>(table: &mut [F], rows: usize, cols: usize)
     requires rows { 0 < rows }
     requires cols { 0 < cols }
     requires room { rows * cols ≤ length table.old }
-    ensures { table.new ≡ replicate (rows * cols) ops.zero ++ drop (rows * cols) table.old }
+    ensures { table.new ≡ replicate (rows * cols) F.ops.zero ++ drop (rows * cols) table.old }
 {
     let mut grid = Grid::new(table, rows, cols);
     grid.clear();
@@ -64,7 +64,7 @@ pub fn work<E: Encoding>(
     table: &mut [E::Coeff],
     certificate: &mut [u8],
 ) -> Result<Verdict, Refusal>
-    ensures { Works E.Coeff.Field.ops graph.now.vertices degree (over (E.Encoding.lists encoding.now) graph.now) (memory table.old certificate.old) result (memory table.new certificate.new) }
+    ensures { Works E.Coeff.ops graph.now.vertices degree (over (E.lists encoding.now) graph.now) (memory table.old certificate.old) result (memory table.new certificate.new) }
 {
     let sizes = fit(encoding, graph, degree, table.len(), certificate.len())?;
     let found = seek(encoding, graph, sizes, table, certificate);

@@ -29,12 +29,12 @@ fn add_multiple<E: Encoding>(
     grid: &mut Grid<'_, E::Coeff>,
 )
     requires narrow { sizes.degree ≤ 48 }
-    requires measured { Measured (length (over (E.Encoding.lists encoding.now) graph.now)) graph.now.vertices sizes.degree sizes }
+    requires measured { Measured (length (over (E.lists encoding.now) graph.now)) graph.now.vertices sizes.degree sizes }
     requires listed { number < sizes.products }
     requires room { Roomy grid.old }
     requires rows { grid.old.rows ≡ sizes.rows }
     ensures held { Held grid.old grid.new }
-    ensures summed { Summed E.Coeff.Field.ops graph.now.vertices sizes.degree grid.old.cols 0 (scaled E.Coeff.Field.ops factor (product graph.now.vertices sizes.degree (over (E.Encoding.lists encoding.now) graph.now) number)) (held grid.old) (held grid.new) }
+    ensures summed { Summed E.Coeff.ops graph.now.vertices sizes.degree grid.old.cols 0 (scaled E.Coeff.ops factor (product graph.now.vertices sizes.degree (over (E.lists encoding.now) graph.now) number)) (held grid.old) (held grid.new) }
 {
     let degree = sizes.degree as usize;
     let monomial = multiplier(
@@ -56,14 +56,14 @@ fn add_products<E: Encoding>(
     grid: &mut Grid<'_, E::Coeff>,
 )
     requires narrow { sizes.degree ≤ 48 }
-    requires measured { Measured (length (over (E.Encoding.lists encoding.now) graph.now)) graph.now.vertices sizes.degree sizes }
+    requires measured { Measured (length (over (E.lists encoding.now) graph.now)) graph.now.vertices sizes.degree sizes }
     requires room { Roomy grid.old }
     requires rows { grid.old.rows ≡ sizes.rows }
     requires column { grid.old.cols ≡ 1 }
-    requires blank { (k : ℕ) → k < grid.old.rows * grid.old.cols → slice_index_or (held grid.old) k E.Coeff.Field.ops.zero ≡ E.Coeff.Field.ops.zero }
+    requires blank { (k : ℕ) → k < grid.old.rows * grid.old.cols → slice_index_or (held grid.old) k E.Coeff.ops.zero ≡ E.Coeff.ops.zero }
     ensures held { Held grid.old grid.new }
-    ensures kept { Kept E.Coeff.Field.ops sizes.rows (held grid.old) (held grid.new) }
-    ensures totals { Totals E.Coeff.Field.ops graph.now.vertices sizes.degree (over (E.Encoding.lists encoding.now) graph.now) certificate.now sizes.products (held grid.new) }
+    ensures kept { Kept E.Coeff.ops sizes.rows (held grid.old) (held grid.new) }
+    ensures totals { Totals E.Coeff.ops graph.now.vertices sizes.degree (over (E.lists encoding.now) graph.now) certificate.now sizes.products (held grid.new) }
 {
     let mut place = HEAD + sizes.map;
     for number in 0..sizes.products {
@@ -85,10 +85,10 @@ pub fn sum<E: Encoding>(
     table: &mut [E::Coeff],
 )
     requires narrow { sizes.degree ≤ 48 }
-    requires measured { Measured (length (over (E.Encoding.lists encoding.now) graph.now)) graph.now.vertices sizes.degree sizes }
+    requires measured { Measured (length (over (E.lists encoding.now) graph.now)) graph.now.vertices sizes.degree sizes }
     requires room { sizes.rows ≤ length table.old }
-    ensures totals { Totals E.Coeff.Field.ops graph.now.vertices sizes.degree (over (E.Encoding.lists encoding.now) graph.now) certificate.now sizes.products table.new }
-    ensures kept { Kept E.Coeff.Field.ops sizes.rows table.old table.new }
+    ensures totals { Totals E.Coeff.ops graph.now.vertices sizes.degree (over (E.lists encoding.now) graph.now) certificate.now sizes.products table.new }
+    ensures kept { Kept E.Coeff.ops sizes.rows table.old table.new }
 {
     let mut grid = Grid::new(table, sizes.rows, 1);
     grid.clear();
@@ -97,7 +97,7 @@ pub fn sum<E: Encoding>(
 
 // Whether coefficients are those of the polynomial one: one in the first row, and zero in every other.
 pub fn is_one<F: Field>(coefficients: &[F]) -> bool
-    ensures { Decides result (Unity ops coefficients.now) }
+    ensures { Decides result (Unity F.ops coefficients.now) }
 {
     for (row, x) in coefficients.iter().enumerate() {
         let expected = if row == 0 { 1 } else { 0 };

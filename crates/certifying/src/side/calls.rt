@@ -30,7 +30,7 @@ impl<E: Encoding> Side<E, E::Coeff> {
 
     /// Makes the call that a line says; a line that says none is refused.
     pub fn reply(&mut self, line: &[u8]) -> Reply
-        ensures { Turned E.Coeff.Field.ops E.Encoding.lists line.now self.old result self.new }
+        ensures { Turned E.Coeff.ops E.lists line.now self.old result self.new }
     {
         reply_to(
             &mut self.solver,
@@ -49,7 +49,7 @@ pub fn answer_line<P: Encoding, Q: Encoding>(
     bits: &mut Side<P, P::Coeff>,
     four: &mut Side<Q, Q::Coeff>,
 ) -> Result<String, AllocError>
-    ensures { Both (λ a. Turned Coeff-as-Field-1.ops P.Encoding.lists line.now bits.old a bits.new) (λ b. Turned Coeff-as-Field-2.ops Q.Encoding.lists line.now four.old b four.new) (λ a b. IfOk result (λ t. Text line.now a b bits.new.certificate.items four.new.certificate.items (string_bytes t))) }
+    ensures { Both (λ a. Turned P.Coeff.ops P.lists line.now bits.old a bits.new) (λ b. Turned Q.Coeff.ops Q.lists line.now four.old b four.new) (λ a b. IfOk result (λ t. Text line.now a b bits.new.certificate.items four.new.certificate.items (string_bytes t))) }
 {
     let one = bits.reply(line);
     let other = four.reply(line);

@@ -40,7 +40,7 @@ impl<F: Field> Plain<F> {
 /// A term of v_i^3 + 1.
 fn cube_term<F: Field>(i: u8, index: usize) -> Term<F>
     requires { i < 24 }
-    ensures { result ≡ slice_index_or (cube F.Field.ops.one i) index (absent F.Field.ops) }
+    ensures { result ≡ slice_index_or (cube F.ops.one i) index (absent F.ops) }
 {
     match index {
         0 => super::monomial(super::power(i, 3)),
@@ -52,7 +52,7 @@ fn cube_term<F: Field>(i: u8, index: usize) -> Term<F>
 /// A term of v_i^2 + v_i v_j + v_j^2.
 fn edge_term<F: Field>(pair: Pair, index: usize) -> Term<F>
     requires { (pair.low < 24) × (pair.high < 24) }
-    ensures { result ≡ slice_index_or (edge F.Field.ops.one pair) index (absent F.Field.ops) }
+    ensures { result ≡ slice_index_or (edge F.ops.one pair) index (absent F.ops) }
 {
     match index {
         0 => super::monomial(super::power(pair.low, 2)),
@@ -65,13 +65,13 @@ fn edge_term<F: Field>(pair: Pair, index: usize) -> Term<F>
 impl<F: Field> Encoding for Plain<F> {
     type Coeff = F;
 
-    ghost lists = { λ _. plain F.Field.ops.one };
+    ghost lists = { λ _. plain F.ops.one };
 
     ghost high = { λ _. 300 };
 
-    ghost bounded = { λ s. plain_bounded F.Field.ops F.Field.laws };
+    ghost bounded = { λ s. plain_bounded F.ops F.laws };
 
-    ghost lawful = { λ s. plain_lawful F.Field.ops F.Field.laws };
+    ghost lawful = { λ s. plain_lawful F.ops F.laws };
 
     fn most(&self) -> usize {
         MOST

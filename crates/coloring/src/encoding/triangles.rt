@@ -38,7 +38,7 @@ impl<E: Encoding> Triangles<E> {
     }
 
     fn triangle(&self, graph: &Graph, wanted: usize) -> Option<Triangle>
-        ensures value { result ≡ at (over (chosen (E.Encoding.high self.now.base)) graph.now) wanted }
+        ensures value { result ≡ at (over (chosen (E.high self.now.base)) graph.now) wanted }
         ensures small { IfSome result (λ t. (t.low < 24) × (t.middle < 24) × (t.high < 24)) }
     {
         if self.base.most() > ROOM {
@@ -52,7 +52,7 @@ impl<E: Encoding> Triangles<E> {
 /// A term of v_i^2 + v_j^2 + v_k^2.
 fn squares_term<F: Field>(triangle: Triangle, index: usize) -> Term<F>
     requires { (triangle.low < 24) × ((triangle.middle < 24) × (triangle.high < 24)) }
-    ensures { result ≡ slice_index_or (squares F.Field.ops.one triangle) index (absent F.Field.ops) }
+    ensures { result ≡ slice_index_or (squares F.ops.one triangle) index (absent F.ops) }
 {
     match index {
         0 => super::monomial(super::power(triangle.low, 2)),
@@ -65,13 +65,13 @@ fn squares_term<F: Field>(triangle: Triangle, index: usize) -> Term<F>
 impl<E: Encoding> Encoding for Triangles<E> {
     type Coeff = E::Coeff;
 
-    ghost lists = { λ s. with_triangles E.Coeff.Field.ops.one (E.Encoding.high s.base) (E.Encoding.lists s.base) };
+    ghost E.lists = { λ s. with_triangles E.Coeff.ops.one (E.high s.base) (E.lists s.base) };
 
-    ghost high = { λ s. raised (E.Encoding.high s.base) };
+    ghost high = { λ s. raised (E.high s.base) };
 
-    ghost bounded = { λ s. added_bounded E.Coeff.Field.ops E.Coeff.Field.laws (E.Encoding.lists s.base) (E.Encoding.high s.base) (E.Encoding.bounded s.base) };
+    ghost bounded = { λ s. added_bounded E.Coeff.ops E.Coeff.laws (E.lists s.base) (E.high s.base) (E.bounded s.base) };
 
-    ghost lawful = { λ s. added_lawful E.Coeff.Field.ops E.Coeff.Field.laws (E.Encoding.lists s.base) (E.Encoding.high s.base) (E.Encoding.lawful s.base) };
+    ghost lawful = { λ s. added_lawful E.Coeff.ops E.Coeff.laws (E.lists s.base) (E.high s.base) (E.lawful s.base) };
 
     fn most(&self) -> usize {
         let below = self.base.most();

@@ -45,7 +45,7 @@ impl<E: Encoding> Solver<E> {
 
     /// Opens the next vertex, and gives its number.
     pub fn open_vertex(&mut self) -> Result<u8, Refusal>
-        ensures step { (m : Memory E.Coeff) → Step E.Coeff.Field.ops (lists self.old.encoding) open_vertex (state_of self.old) m (opened result) (state_of self.new) m }
+        ensures step { (m : Memory E.Coeff) → Step E.Coeff.ops (E.lists self.old.encoding) open_vertex (state_of self.old) m (opened result) (state_of self.new) m }
         ensures encoding { self.new.encoding ≡ self.old.encoding }
     {
         let number = self.graph.vertices();
@@ -75,7 +75,7 @@ impl<E: Encoding> Solver<E> {
 
     /// Adds the edge between two open vertices, given in either order.
     pub fn add_edge(&mut self, i: usize, j: usize) -> Result<(), Refusal>
-        ensures step { (m : Memory E.Coeff) → Step E.Coeff.Field.ops (lists self.old.encoding) (add_edge i j) (state_of self.old) m (done result) (state_of self.new) m }
+        ensures step { (m : Memory E.Coeff) → Step E.Coeff.ops (E.lists self.old.encoding) (add_edge i j) (state_of self.old) m (done result) (state_of self.new) m }
         ensures encoding { self.new.encoding ≡ self.old.encoding }
     {
         let edge = self.edge(i, j)?;
@@ -89,7 +89,7 @@ impl<E: Encoding> Solver<E> {
 
     /// Removes the edge between two open vertices, given in either order.
     pub fn remove_edge(&mut self, i: usize, j: usize) -> Result<(), Refusal>
-        ensures step { (m : Memory E.Coeff) → Step E.Coeff.Field.ops (lists self.old.encoding) (remove_edge i j) (state_of self.old) m (done result) (state_of self.new) m }
+        ensures step { (m : Memory E.Coeff) → Step E.Coeff.ops (E.lists self.old.encoding) (remove_edge i j) (state_of self.old) m (done result) (state_of self.new) m }
         ensures encoding { self.new.encoding ≡ self.old.encoding }
     {
         let edge = self.edge(i, j)?;
@@ -108,7 +108,7 @@ impl<E: Encoding> Solver<E> {
         table: &mut [E::Coeff],
         certificate: &mut [u8],
     ) -> Result<Verdict, Refusal>
-        ensures step { Step E.Coeff.Field.ops (lists self.old.encoding) raise_degree (state_of self.old) (memory table.old certificate.old) (said result) (state_of self.new) (memory table.new certificate.new) }
+        ensures step { Step E.Coeff.ops (E.lists self.old.encoding) raise_degree (state_of self.old) (memory table.old certificate.old) (said result) (state_of self.new) (memory table.new certificate.new) }
         ensures encoding { self.new.encoding ≡ self.old.encoding }
     {
         if self.infeasible {
@@ -131,7 +131,7 @@ impl<E: Encoding> Solver<E> {
         table: &mut [E::Coeff],
         certificate: &mut [u8],
     ) -> Result<Verdict, Refusal>
-        ensures step { Step E.Coeff.Field.ops (lists self.old.encoding) (try_edge i j degree) (state_of self.old) (memory table.old certificate.old) (said result) (state_of self.new) (memory table.new certificate.new) }
+        ensures step { Step E.Coeff.ops (E.lists self.old.encoding) (try_edge i j degree) (state_of self.old) (memory table.old certificate.old) (said result) (state_of self.new) (memory table.new certificate.new) }
         ensures same { self.new ≡ self.old }
     {
         if degree < FIRST_DEGREE || degree > LAST_DEGREE {
@@ -155,14 +155,14 @@ impl<E: Encoding> Solver<E> {
     /// Passes a certificate exactly when the products of the solver's equations, each by the coefficient that the certificate gives it, add up to
     /// one.
     pub fn check(&self, certificate: &[u8], table: &mut [E::Coeff]) -> Result<(), Refusal>
-        ensures { (c : List ℕ) → Step E.Coeff.Field.ops (lists self.now.encoding) (check_certificate certificate.now) (state_of self.now) (memory table.old c) (passed result) (state_of self.now) (memory table.new c) }
+        ensures { (c : List ℕ) → Step E.Coeff.ops (E.lists self.now.encoding) (check_certificate certificate.now) (state_of self.now) (memory table.old c) (passed result) (state_of self.now) (memory table.new c) }
     {
         check(&self.encoding, &self.graph, certificate, table)
     }
 
     /// Makes a call that is written down.
     pub fn make(&mut self, call: Call<'_>, table: &mut [E::Coeff], certificate: &mut [u8]) -> Reply
-        ensures step { Step E.Coeff.Field.ops (lists self.old.encoding) (request_of call.entry) (state_of self.old) (memory table.old certificate.old) result (state_of self.new) (memory table.new certificate.new) }
+        ensures step { Step E.Coeff.ops (E.lists self.old.encoding) (request_of call.entry) (state_of self.old) (memory table.old certificate.old) result (state_of self.new) (memory table.new certificate.new) }
         ensures encoding { self.new.encoding ≡ self.old.encoding }
     {
         match call {
