@@ -65,7 +65,7 @@ fn squares_term<F: Field>(triangle: Triangle, index: usize) -> Term<F>
 impl<E: Encoding> Encoding for Triangles<E> {
     type Coeff = E::Coeff;
 
-    ghost E.lists = { λ s. with_triangles E.Coeff.ops.one (E.high s.base) (E.lists s.base) };
+    ghost lists = { λ s. with_triangles E.Coeff.ops.one (E.high s.base) (E.lists s.base) };
 
     ghost high = { λ s. raised (E.high s.base) };
 
