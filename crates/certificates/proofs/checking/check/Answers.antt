@@ -20,7 +20,7 @@ pub wipe-requires : goal.wipe-requires
 wipe-requires g c =
     let a = c.in_ok-sizes.ensures in
     let some : 0 < c.in_ok-sizes.sizes.rows =
-    omega (arith, ap (λ (s : Sizes). s.rows) a.decreases.is, count_positive c.args.graph.now.vertices (degree_of c.args.certificate.now + 3) c.args.graph.now.few) in
+    omega (arith, ap (λ (s : Sizes). s.rows) a.measured.is, count_positive c.args.graph.now.vertices (degree_of c.args.certificate.now + 3) c.args.graph.now.few) in
     record {
       rows = omega (arith, some);
       cols = omega arith;
@@ -30,7 +30,7 @@ wipe-requires g c =
 pub returns-then-one : goal.returns-then-one
 returns-then-one g c =
     let gr = c.args.graph.now in
-    let laws = g.Coeff.Field.laws in
+    let laws = g.E.Coeff.Field.laws in
     let n = gr.vertices in
     let eqs = over (g.E.Encoding.lists c.args.encoding.now) gr in
     let bytes = c.args.certificate.now in
@@ -38,7 +38,7 @@ returns-then-one g c =
     let xs = c.sum.new.table in
     let z = c.in_ok-sizes.sizes in
     let a = c.in_ok-sizes.ensures in
-    let ok = formed g.Coeff.Field.ops (g.E.Encoding.lists c.args.encoding.now) _ n (joined gr) (g.met.E.Encoding.bounded c.args.encoding.now) gr.few in (
+    let ok = formed g.E.Coeff.Field.ops (g.E.Encoding.lists c.args.encoding.now) _ n (joined gr) (g.met.E.Encoding.bounded c.args.encoding.now) gr.few in (
       a.clear,
       passes laws n eqs ok bytes table xs z a c.sum.ensures.kept c.sum.ensures.totals (c.is_one-one.ensures.0 c.if-one.true),
       wiped laws n eqs ok bytes table xs z a c.sum.ensures.kept c.sum.ensures.totals c.wipe.new.table c.wipe.ensures,
@@ -47,7 +47,7 @@ returns-then-one g c =
 pub returns-else-one : goal.returns-else-one
 returns-else-one g c =
     let gr = c.args.graph.now in
-    let laws = g.Coeff.Field.laws in
+    let laws = g.E.Coeff.Field.laws in
     let n = gr.vertices in
     let eqs = over (g.E.Encoding.lists c.args.encoding.now) gr in
     let bytes = c.args.certificate.now in
@@ -55,7 +55,7 @@ returns-else-one g c =
     let xs = c.sum.new.table in
     let z = c.in_ok-sizes.sizes in
     let a = c.in_ok-sizes.ensures in
-    let ok = formed g.Coeff.Field.ops (g.E.Encoding.lists c.args.encoding.now) _ n (joined gr) (g.met.E.Encoding.bounded c.args.encoding.now) gr.few in
+    let ok = formed g.E.Coeff.Field.ops (g.E.Encoding.lists c.args.encoding.now) _ n (joined gr) (g.met.E.Encoding.bounded c.args.encoding.now) gr.few in
     inr (
       a.clear,
       (λ p. not_from_Decides c.is_one-one.result c.is_one-one.ensures c.if-one.false (passed laws n eqs ok bytes table xs z a c.sum.ensures.kept c.sum.ensures.totals p)),

@@ -19,14 +19,14 @@ pub loop-index-init : goal.loop-index-init
 loop-index-init g c =
     let gr = c.args.graph.now in (
       held_self c.args.grid.now,
-      summed_none g.Coeff.Field.laws gr.vertices c.args.degree c.args.grid.now.cols c.args.column gr.few c.requires.column
-          (scaled g.Coeff.Field.ops c.args.factor (times c.args.monomial (get_or (over (g.E.Encoding.lists c.args.encoding.now) gr) c.args.equation []))) (held c.args.grid.now),
+      summed_none g.E.Coeff.Field.laws gr.vertices c.args.degree c.args.grid.now.cols c.args.column gr.few c.requires.column
+          (scaled g.E.Coeff.Field.ops c.args.factor (times c.args.monomial (get_or (over (g.E.Encoding.lists c.args.encoding.now) gr) c.args.equation []))) (held c.args.grid.now),
     )
 
 pub plus-exponents-requires : goal.plus-exponents-requires
 plus-exponents-requires g c =
     let gr = c.args.graph.now in
-    let o = g.Coeff.Field.ops in
+    let o = g.E.Coeff.Field.ops in
     let e = get_or (over (g.E.Encoding.lists c.args.encoding.now) gr) c.args.equation [] in
     let inside : c.loop-index.index < length e = omega (arith, c.loop-index-test.true, c.terms-index-end.ensures) in
     let sound : Sound o gr.vertices c.term-term.result = subst (Sound o gr.vertices) (sym c.term-term.ensures) (((g.met.E.Encoding.bounded c.args.encoding.now).equations gr.vertices (joined gr) gr.few c.args.equation c.requires.listed).terms c.loop-index.index inside) in
@@ -36,7 +36,7 @@ pub loop-index-preserved : goal.loop-index-preserved
 loop-index-preserved g c =
     let gr = c.args.graph.now in
     let n = gr.vertices in
-    let o = g.Coeff.Field.ops in
+    let o = g.E.Coeff.Field.ops in
     let e = get_or (over (g.E.Encoding.lists c.args.encoding.now) gr) c.args.equation [] in
     let inside : c.loop-index.index < length e = omega (arith, c.loop-index-test.true, c.terms-index-end.ensures) in
     let told = ((g.met.E.Encoding.bounded c.args.encoding.now).equations n (joined gr) gr.few c.args.equation c.requires.listed).terms c.loop-index.index inside in
@@ -49,7 +49,7 @@ loop-index-preserved g c =
           let some : Some w.in-Some.row ≡ Some (rank_of (take n c.plus-exponents.result)) = w.in-Some.ensures ∙ row.0 in
           let is : w.in-Some.row ≡ rank_of (take n c.plus-exponents.result) = cc in
           subst (λ x. Held c.args.grid.now x × Summed o n c.args.degree c.args.grid.now.cols c.args.column (take (c.loop-index.index + 1) (scaled o c.args.factor (times c.args.monomial e))) (held c.args.grid.now) (held x)) (sym w.grid-is)
-          (term_turn g.Coeff.Field.laws n c.args.degree c.args.column gr.few c.args.monomial c.requires.monomial c.args.factor e c.args.grid.now c.requires.room c.requires.rows c.requires.column
+          (term_turn g.E.Coeff.Field.laws n c.args.degree c.args.column gr.few c.args.monomial c.requires.monomial c.args.factor e c.args.grid.now c.requires.room c.requires.rows c.requires.column
           c.loop-index.index w.in-Some.row c.term-term.result c.plus-exponents.result c.loop-index.grid w.set.new.self w.get.result w.mul.result w.add-sum.result inside c.term-term.ensures told c.plus-exponents.ensures is
           w.get.ensures w.mul.ensures w.add-sum.ensures w.set.ensures.held w.set.ensures.cell c.loop-index.invariant.0 c.loop-index.invariant.1)
       | in_default w ↦ absurd (w.in_default.not-Some _ (c.rank.ensures ∙ row.0))
@@ -58,7 +58,7 @@ loop-index-preserved g c =
 pub returns : goal.returns
 returns g c =
     let gr = c.args.graph.now in
-    let o = g.Coeff.Field.ops in
+    let o = g.E.Coeff.Field.ops in
     let e = get_or (over (g.E.Encoding.lists c.args.encoding.now) gr) c.args.equation [] in
     let p = scaled o c.args.factor (times c.args.monomial e) in
     let all : length p ≤ c.loop-index.index = omega (arith, scaled_length o c.args.factor (times c.args.monomial e), times_length c.args.monomial e, c.loop-index-test.false, c.terms-index-end.ensures) in

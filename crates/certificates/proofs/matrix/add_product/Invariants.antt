@@ -8,4 +8,4 @@ use Rattle.certificates.proofs.matrix.add_product.Given as goal
 abbrev pub invariant-loop-index : goal.invariant-loop-index
 invariant-loop-index g l =
     Held l.initial.grid l.grid
-    × Summed g.Coeff.Field.ops l.graph.vertices l.degree l.initial.grid.cols l.column (take l.index (scaled g.Coeff.Field.ops l.factor (times l.monomial (get_or (over (g.E.Encoding.lists l.encoding) l.graph) l.equation [])))) (held l.initial.grid) (held l.grid)
+    × Summed g.E.Coeff.Field.ops l.graph.vertices l.degree l.initial.grid.cols l.column (take l.index (scaled g.E.Coeff.Field.ops l.factor (times l.monomial (get_or (over (g.E.Encoding.lists l.encoding) l.graph) l.equation [])))) (held l.initial.grid) (held l.grid)

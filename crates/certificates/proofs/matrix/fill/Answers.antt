@@ -14,7 +14,7 @@ use Rattle.certificates.proofs.matrix.fill.Goals as goal
 
 pub loop-equation-init : goal.loop-equation-init
 loop-equation-init g c =
-    let o = g.Coeff.Field.ops in
+    let o = g.E.Coeff.Field.ops in
     let gr = c.args.graph.now in
     let n = gr.vertices in
     let d = c.args.sizes.degree in
@@ -25,7 +25,7 @@ loop-equation-init g c =
       held_self c.args.grid.now,
       kept_self o _ (held c.args.grid.now),
       subst (λ (k : ℕ). Begun o n d eqs k (held c.args.grid.now)) (sym (zero-mul c.args.sizes.multipliers))
-          (begun_none g.Coeff.Field.laws n d eqs (held c.args.grid.now) (λ k h. c.requires.blank k (subst (λ (a : ℕ). k < a) (sym area) h))),
+          (begun_none g.E.Coeff.Field.laws n d eqs (held c.args.grid.now) (λ k h. c.requires.blank k (subst (λ (a : ℕ). k < a) (sym area) h))),
     )
 
 pub fill_equation-requires : goal.fill_equation-requires
@@ -46,7 +46,7 @@ fill_equation-requires g c =
 
 pub loop-equation-preserved : goal.loop-equation-preserved
 loop-equation-preserved g c =
-    let o = g.Coeff.Field.ops in
+    let o = g.E.Coeff.Field.ops in
     let same : c.loop-equation.grid.rows * c.loop-equation.grid.cols ≡ c.args.grid.now.rows * c.args.grid.now.cols =
     ap (λ (a : ℕ). a * c.loop-equation.grid.cols) c.loop-equation.invariant.0.rows ∙ ap (λ (a : ℕ). c.args.grid.now.rows * a) c.loop-equation.invariant.0.cols in (
       held_then c.args.grid.now c.loop-equation.grid c.fill_equation.new.grid c.loop-equation.invariant.0 c.fill_equation.ensures.held,
@@ -57,7 +57,7 @@ loop-equation-preserved g c =
 
 pub returns : goal.returns
 returns g c =
-    let o = g.Coeff.Field.ops in
+    let o = g.E.Coeff.Field.ops in
     let gr = c.args.graph.now in
     let n = gr.vertices in
     let d = c.args.sizes.degree in
@@ -88,5 +88,5 @@ returns g c =
     record {
       held = held_then g0 g1 g2 c.loop-equation.invariant.0 c.set.ensures.held;
       kept = kept_then o (g0.rows * g0.cols) (held g0) (held g1) (held g2) c.loop-equation.invariant.1 (subst (λ zs. Kept o (g0.rows * g0.cols) (held g1) zs) (sym written) (kept_set o (g0.rows * g0.cols) (held g1) (0 * (P + 1) + P) o.one place));
-      filled = subst (λ zs. Filled o n d eqs zs) (sym written) (begun_filled g.Coeff.Field.laws n d eqs (held g1) gr.few some fits begun);
+      filled = subst (λ zs. Filled o n d eqs zs) (sym written) (begun_filled g.E.Coeff.Field.laws n d eqs (held g1) gr.few some fits begun);
     }

@@ -13,7 +13,7 @@ use Rattle.certificates.proofs.matrix.fill_equation.Goals as goal
 
 pub loop-rank-init : goal.loop-rank-init
 loop-rank-init g c =
-    let o = g.Coeff.Field.ops in
+    let o = g.E.Coeff.Field.ops in
     let gr = c.args.graph.now in (
       held_self c.args.grid.now,
       kept_self o (c.args.grid.now.rows * c.args.grid.now.cols) (held c.args.grid.now),
@@ -63,13 +63,13 @@ add_product-requires g c =
 
 pub loop-rank-preserved : goal.loop-rank-preserved
 loop-rank-preserved g c =
-    let o = g.Coeff.Field.ops in
+    let o = g.E.Coeff.Field.ops in
     let gr = c.args.graph.now in
     let n = gr.vertices in
     let d = c.args.degree in
     let before = c.loop-rank.grid in
     let after = c.add_product.new.grid in
-    let turn = column_turn g.Coeff.Field.laws n d (over (g.E.Encoding.lists c.args.encoding.now) gr) c.args.equation c.loop-rank.rank c.args.multipliers before.cols c.multiplier-monomial.result c.one.result (held before) (held after) c.requires.listed
+    let turn = column_turn g.E.Coeff.Field.laws n d (over (g.E.Encoding.lists c.args.encoding.now) gr) c.args.equation c.loop-rank.rank c.args.multipliers before.cols c.multiplier-monomial.result c.one.result (held before) (held after) c.requires.listed
     (omega (arith, c.loop-rank-test.true, c.requires.multipliers)) c.requires.multipliers (c.multiplier-monomial.ensures ∙ ap (λ (v : ℕ). monomial_at v d c.loop-rank.rank) c.vertices-vertices.ensures.value) c.one.ensures (c.loop-rank.invariant.0.cols ∙ c.requires.columns) c.add_product.ensures.summed c.loop-rank.invariant.2 in
     let area : count n (d + 3) * before.cols ≡ c.args.grid.now.rows * c.args.grid.now.cols = ap (λ (a : ℕ). a * before.cols) (sym c.requires.rows) ∙ ap (λ (a : ℕ). c.args.grid.now.rows * a) c.loop-rank.invariant.0.cols in (
       held_then c.args.grid.now before after c.loop-rank.invariant.0 c.add_product.ensures.held,
@@ -79,7 +79,7 @@ loop-rank-preserved g c =
 
 pub returns : goal.returns
 returns g c =
-    let o = g.Coeff.Field.ops in
+    let o = g.E.Coeff.Field.ops in
     let gr = c.args.graph.now in
     let eqs = over (g.E.Encoding.lists c.args.encoding.now) gr in
     let m = c.args.multipliers in

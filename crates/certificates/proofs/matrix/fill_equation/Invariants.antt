@@ -8,5 +8,5 @@ use Rattle.certificates.proofs.matrix.fill_equation.Given as goal
 abbrev pub invariant-loop-rank : goal.invariant-loop-rank
 invariant-loop-rank g l =
     Held l.initial.grid l.grid
-    × Kept g.Coeff.Field.ops (l.initial.grid.rows * l.initial.grid.cols) (held l.initial.grid) (held l.grid)
-    × Begun g.Coeff.Field.ops l.graph.vertices l.degree (over (g.E.Encoding.lists l.encoding) l.graph) (l.equation * l.multipliers + l.rank) (held l.grid)
+    × Kept g.E.Coeff.Field.ops (l.initial.grid.rows * l.initial.grid.cols) (held l.initial.grid) (held l.grid)
+    × Begun g.E.Coeff.Field.ops l.graph.vertices l.degree (over (g.E.Encoding.lists l.encoding) l.graph) (l.equation * l.multipliers + l.rank) (held l.grid)

@@ -40,7 +40,7 @@ fill-requires g c =
 
 pub returns : goal.returns
 returns g c =
-    let o = g.Coeff.Field.ops in
+    let o = g.E.Coeff.Field.ops in
     let gr = c.args.graph.now in
     let n = gr.vertices in
     let d = c.args.sizes.degree in
@@ -73,6 +73,6 @@ returns g c =
     let kept03 = kept_then o c.args.sizes.cells (held g0) (held g2) (held g3) kept12 kept3 in
     let all : Kept o c.args.sizes.cells c.args.table.now (held g3) = subst (λ xs. Kept o c.args.sizes.cells xs (held g3)) c.new-grid.ensures.cells kept03 in
     let told : Decided o n d eqs (held g3) c.solve.result =
-    decided g.Coeff.Field.laws n d eqs (formed o (g.E.Encoding.lists c.args.encoding.now) _ n (joined gr) (g.met.E.Encoding.bounded c.args.encoding.now) gr.few) (held g2) (held g3) c.solve.result c.fill.ensures.filled solved in
+    decided g.E.Coeff.Field.laws n d eqs (formed o (g.E.Encoding.lists c.args.encoding.now) _ n (joined gr) (g.met.E.Encoding.bounded c.args.encoding.now) gr.few) (held g2) (held g3) c.solve.result c.fill.ensures.filled solved in
     let lent = (held_then g0 g2 g3 held12 c.solve.ensures.held).lent ∙ c.new-grid.ensures.lent in
     record { decided = search rules; kept = search rules }

@@ -11,7 +11,7 @@ loop-k-init g c = (none, (λ n h. refl), refl)
 
 pub loop-k-preserved : goal.loop-k-preserved
 loop-k-preserved g c = (
-  makes_next_by g.Coeff.Field.ops (g.E.Encoding.lists c.args.solver.now.encoding) g.E.Encoding.lists c.args.solver.now.encoding c.loop-k.solver.encoding refl c.loop-k.invariant.2 request_of c.args.calls.now _ c.loop-k.replies c.loop-k.k
+  makes_next_by g.E.Coeff.Field.ops (g.E.Encoding.lists c.args.solver.now.encoding) g.E.Encoding.lists c.args.solver.now.encoding c.loop-k.solver.encoding refl c.loop-k.invariant.2 request_of c.args.calls.now _ c.loop-k.replies c.loop-k.k
       (omega (arith, c.loop-k-test.true, c.min-count.ensures)) (omega (arith, c.loop-k-test.true, c.min-count.ensures, c.loop-k.auto.replies)) c.loop-k.invariant.0 c.make.ensures.step,
   (λ n h. drop-set-lt n c.loop-k.replies c.loop-k.k c.make.result (omega arith) ∙ c.loop-k.invariant.1 n (omega arith)),
   c.make.ensures.encoding ∙ c.loop-k.invariant.2,
@@ -22,8 +22,8 @@ returns g c =
     let end : c.loop-k.k ≡ c.min-count.result = omega arith in
     record {
       count = c.min-count.ensures;
-      replayed = replayed g.Coeff.Field.ops (g.E.Encoding.lists c.args.solver.now.encoding)
-          (subst (λ (n : ℕ). Makes g.Coeff.Field.ops (g.E.Encoding.lists c.args.solver.now.encoding) (map request_of (take n c.args.calls.now)) (state_of c.args.solver.now) (memory c.args.table.now c.args.certificate.now) (take n c.loop-k.replies) (state_of c.loop-k.solver) (memory c.loop-k.table c.loop-k.certificate)) end c.loop-k.invariant.0);
+      replayed = replayed g.E.Coeff.Field.ops (g.E.Encoding.lists c.args.solver.now.encoding)
+          (subst (λ (n : ℕ). Makes g.E.Coeff.Field.ops (g.E.Encoding.lists c.args.solver.now.encoding) (map request_of (take n c.args.calls.now)) (state_of c.args.solver.now) (memory c.args.table.now c.args.certificate.now) (take n c.loop-k.replies) (state_of c.loop-k.solver) (memory c.loop-k.table c.loop-k.certificate)) end c.loop-k.invariant.0);
       beyond = c.loop-k.invariant.1 _ (omega arith);
       encoding = c.loop-k.invariant.2;
     }

@@ -17,7 +17,7 @@ slice_bounds-write-end g c = omega (arith, products_inside _ _ _ c.args.sizes c.
 
 pub returns : goal.returns
 returns g c =
-    let o = g.Coeff.Field.ops in
+    let o = g.E.Coeff.Field.ops in
     let gr = c.args.graph.now in
     let n = gr.vertices in
     let d = c.args.sizes.degree in

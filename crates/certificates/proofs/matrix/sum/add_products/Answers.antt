@@ -13,7 +13,7 @@ use Rattle.certificates.proofs.matrix.sum.add_products.Goals.{then-marked, else-
 
 pub loop-number-init : goal.loop-number-init
 loop-number-init g c =
-    let o = g.Coeff.Field.ops in
+    let o = g.E.Coeff.Field.ops in
     let gr = c.args.graph.now in
     let n = gr.vertices in
     let d = c.args.sizes.degree in
@@ -22,7 +22,7 @@ loop-number-init g c =
       held_self g0,
       kept_self o c.args.sizes.rows (held g0),
       omega (arith, before_none c.args.certificate.now),
-      totals_none g.Coeff.Field.laws n d (over (g.E.Encoding.lists c.args.encoding.now) gr) c.args.certificate.now (held g0) (λ k h. c.requires.blank k (omega (arith, area))),
+      totals_none g.E.Coeff.Field.laws n d (over (g.E.Encoding.lists c.args.encoding.now) gr) c.args.certificate.now (held g0) (λ k h. c.requires.blank k (omega (arith, area))),
     )
 
 pub overflow_add-place-then-marked : goal.overflow_add-place-then-marked
@@ -32,7 +32,7 @@ overflow_add-place-then-marked g c =
 
 pub loop-number-preserved : goal.loop-number-preserved
 loop-number-preserved g c =
-    let laws = g.Coeff.Field.laws in
+    let laws = g.E.Coeff.Field.laws in
     let gr = c.args.graph.now in
     let n = gr.vertices in
     let d = c.args.sizes.degree in
@@ -63,7 +63,7 @@ loop-number-preserved g c =
 
 pub returns : goal.returns
 returns g c =
-    let o = g.Coeff.Field.ops in
+    let o = g.E.Coeff.Field.ops in
     let gr = c.args.graph.now in
     let end : c.loop-number.number ≡ c.args.sizes.products = omega arith in
     record {

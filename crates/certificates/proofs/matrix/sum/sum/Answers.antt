@@ -32,7 +32,7 @@ add_products-requires g c =
 
 pub returns : goal.returns
 returns g c =
-    let o = g.Coeff.Field.ops in
+    let o = g.E.Coeff.Field.ops in
     let gr = c.args.graph.now in
     let z = c.requires.measured.is in
     let g0 = c.new-grid.result in

@@ -5,4 +5,4 @@ use Rattle.nulla.proofs.solver.Solver.check.Goals as goal
 pub returns : goal.returns
 returns g c =
     let s = c.args.self.now in
-    λ bytes. checked g.Coeff.Field.ops (g.E.Encoding.lists s.encoding) (state_of s) c.args.certificate.now c.args.table.now bytes c.check.result c.check.new.table c.check.ensures
+    λ bytes. checked g.E.Coeff.Field.ops (g.E.Encoding.lists s.encoding) (state_of s) c.args.certificate.now c.args.table.now bytes c.check.result c.check.new.table c.check.ensures

@@ -9,7 +9,7 @@ pub returns-then-self : goal.returns-then-self
 returns-then-self g c =
     let s = c.args.self.now in
     record {
-      step = raise_over g.Coeff.Field.ops (g.E.Encoding.lists s.encoding) s.graph.vertices (joined s.graph) s.degree s.infeasible (memory c.args.table.now c.args.certificate.now) c.if-self.true;
+      step = raise_over g.E.Coeff.Field.ops (g.E.Encoding.lists s.encoding) s.graph.vertices (joined s.graph) s.degree s.infeasible (memory c.args.table.now c.args.certificate.now) c.if-self.true;
       encoding = refl;
     }
 
@@ -19,7 +19,7 @@ returns-in_err-verdict g c =
     let p = err_from_is_err_and c.from_residual.result c.from_residual.ensures.1 in
     let e = c.in_err-verdict.ensures in
     record {
-      step = rw (p.1, p.2) (raise_refused g.Coeff.Field.ops (g.E.Encoding.lists s.encoding) s.graph.vertices (joined s.graph) s.degree s.infeasible (memory c.args.table.now c.args.certificate.now) _ _ c.if-self.false e.0 e.1);
+      step = rw (p.1, p.2) (raise_refused g.E.Coeff.Field.ops (g.E.Encoding.lists s.encoding) s.graph.vertices (joined s.graph) s.degree s.infeasible (memory c.args.table.now c.args.certificate.now) _ _ c.if-self.false e.0 e.1);
       encoding = refl;
     }
 
@@ -28,6 +28,6 @@ returns g c =
     let s = c.args.self.now in
     let e = c.in_ok-verdict.ensures in
     record {
-      step = raise_worked g.Coeff.Field.ops (g.E.Encoding.lists s.encoding) s.graph.vertices (joined s.graph) s.degree s.infeasible (memory c.args.table.now c.args.certificate.now) c.in_ok-verdict.verdict _ _ c.if-self.false e.0 e.1 c.is_infeasible-self.ensures;
+      step = raise_worked g.E.Coeff.Field.ops (g.E.Encoding.lists s.encoding) s.graph.vertices (joined s.graph) s.degree s.infeasible (memory c.args.table.now c.args.certificate.now) c.in_ok-verdict.verdict _ _ c.if-self.false e.0 e.1 c.is_infeasible-self.ensures;
       encoding = refl;
     }

@@ -9,7 +9,7 @@ returns-in_err-edge g c =
     let s = c.args.self.now in
     let p = err_from_is_err_and c.from_residual.result c.from_residual.ensures.1 in
     record {
-      step = rw (p.1, p.2) (removing_refused g.Coeff.Field.ops (g.E.Encoding.lists s.encoding) s.graph s.degree s.infeasible c.args.i c.args.j _ c.in_err-edge.ensures);
+      step = rw (p.1, p.2) (removing_refused g.E.Coeff.Field.ops (g.E.Encoding.lists s.encoding) s.graph s.degree s.infeasible c.args.i c.args.j _ c.in_err-edge.ensures);
       encoding = refl;
     }
 
@@ -18,7 +18,7 @@ returns-then-not-joins g c =
     let s = c.args.self.now in
     let e = c.in_ok-edge.ensures in
     record {
-      step = missing g.Coeff.Field.ops (g.E.Encoding.lists s.encoding) s.graph s.degree s.infeasible c.args.i c.args.j _ _ e.0 e.1 e.2 (sym c.joins.ensures ∙ c.if-not-joins.true);
+      step = missing g.E.Coeff.Field.ops (g.E.Encoding.lists s.encoding) s.graph s.degree s.infeasible c.args.i c.args.j _ _ e.0 e.1 e.2 (sym c.joins.ensures ∙ c.if-not-joins.true);
       encoding = refl;
     }
 
@@ -27,6 +27,6 @@ returns g c =
     let s = c.args.self.now in
     let e = c.in_ok-edge.ensures in
     record {
-      step = removing g.Coeff.Field.ops (g.E.Encoding.lists s.encoding) s.graph s.degree s.infeasible c.args.i c.args.j _ _ e.0 e.1 e.2 _ (sym c.joins.ensures ∙ c.if-not-joins.false) c.part.ensures.pairs;
+      step = removing g.E.Coeff.Field.ops (g.E.Encoding.lists s.encoding) s.graph s.degree s.infeasible c.args.i c.args.j _ _ e.0 e.1 e.2 _ (sym c.joins.ensures ∙ c.if-not-joins.false) c.part.ensures.pairs;
       encoding = refl;
     }

@@ -13,7 +13,7 @@ pub returns-then-degree-lt-FIRST_DEGREE : goal.returns-then-degree-lt-FIRST_DEGR
 returns-then-degree-lt-FIRST_DEGREE g c =
     let s = c.args.self.now in
     record {
-      step = try_unranged g.Coeff.Field.ops (g.E.Encoding.lists s.encoding) s.graph s.degree s.infeasible c.args.i c.args.j c.args.degree c.then-degree-lt-FIRST_DEGREE.either (memory c.args.table.now c.args.certificate.now);
+      step = try_unranged g.E.Coeff.Field.ops (g.E.Encoding.lists s.encoding) s.graph s.degree s.infeasible c.args.i c.args.j c.args.degree c.then-degree-lt-FIRST_DEGREE.either (memory c.args.table.now c.args.certificate.now);
       same = refl;
     }
 
@@ -22,7 +22,7 @@ returns-in_err-edge g c =
     let s = c.args.self.now in
     let p = err_from_is_err_and c.from_residual.result c.from_residual.ensures.1 in
     record {
-      step = rw (p.1, p.2) (try_refused g.Coeff.Field.ops (g.E.Encoding.lists s.encoding) s.graph s.degree s.infeasible c.args.i c.args.j c.args.degree c.if-degree-lt-FIRST_DEGREE.false c.if-degree-gt-LAST_DEGREE.false _ c.in_err-edge.ensures (memory c.args.table.now c.args.certificate.now));
+      step = rw (p.1, p.2) (try_refused g.E.Coeff.Field.ops (g.E.Encoding.lists s.encoding) s.graph s.degree s.infeasible c.args.i c.args.j c.args.degree c.if-degree-lt-FIRST_DEGREE.false c.if-degree-gt-LAST_DEGREE.false _ c.in_err-edge.ensures (memory c.args.table.now c.args.certificate.now));
       same = refl;
     }
 
@@ -31,7 +31,7 @@ returns-then-joins g c =
     let s = c.args.self.now in
     let e = c.in_ok-edge.ensures in
     record {
-      step = try_already g.Coeff.Field.ops (g.E.Encoding.lists s.encoding) s.graph s.degree s.infeasible c.args.i c.args.j _ _ e.0 e.1 e.2 c.args.degree c.if-degree-lt-FIRST_DEGREE.false c.if-degree-gt-LAST_DEGREE.false (sym c.joins.ensures ∙ c.if-joins.true) (memory c.args.table.now c.args.certificate.now);
+      step = try_already g.E.Coeff.Field.ops (g.E.Encoding.lists s.encoding) s.graph s.degree s.infeasible c.args.i c.args.j _ _ e.0 e.1 e.2 c.args.degree c.if-degree-lt-FIRST_DEGREE.false c.if-degree-gt-LAST_DEGREE.false (sym c.joins.ensures ∙ c.if-joins.true) (memory c.args.table.now c.args.certificate.now);
       same = solver_back s s.graph _ refl;
     }
 
@@ -47,7 +47,7 @@ returns-in_err-verdict g c =
     let p = err_from_is_err_and c.from_residual-in_err-verdict.result c.from_residual-in_err-verdict.ensures.1 in
     let w = c.in_err-verdict.ensures in
     record {
-      step = rw (p.1, p.2) (step_as (try_unworked g.Coeff.Field.ops (g.E.Encoding.lists s.encoding) s.graph s.degree s.infeasible c.args.i c.args.j edge.lower edge.higher e.0 e.1 e.2 c.args.degree c.if-degree-lt-FIRST_DEGREE.false c.if-degree-gt-LAST_DEGREE.false c.graph.result.now there (memory c.args.table.now c.args.certificate.now) _ _ (sym c.joins.ensures ∙ c.if-joins.false) w.0 w.1) refl end);
+      step = rw (p.1, p.2) (step_as (try_unworked g.E.Coeff.Field.ops (g.E.Encoding.lists s.encoding) s.graph s.degree s.infeasible c.args.i c.args.j edge.lower edge.higher e.0 e.1 e.2 c.args.degree c.if-degree-lt-FIRST_DEGREE.false c.if-degree-gt-LAST_DEGREE.false c.graph.result.now there (memory c.args.table.now c.args.certificate.now) _ _ (sym c.joins.ensures ∙ c.if-joins.false) w.0 w.1) refl end);
       same = solver_back s c.drop-trial.new.self.0 _ again;
     }
 
@@ -62,6 +62,6 @@ returns g c =
     let end = ap (λ (h : Graph). state h.vertices (joined h) s.degree s.infeasible) (sym again) in
     let w = c.in_ok-verdict.ensures in
     record {
-      step = step_as (try_worked g.Coeff.Field.ops (g.E.Encoding.lists s.encoding) s.graph s.degree s.infeasible c.args.i c.args.j edge.lower edge.higher e.0 e.1 e.2 c.args.degree c.if-degree-lt-FIRST_DEGREE.false c.if-degree-gt-LAST_DEGREE.false c.graph.result.now there (memory c.args.table.now c.args.certificate.now) c.in_ok-verdict.verdict _ (sym c.joins.ensures ∙ c.if-joins.false) w.0 w.1) refl end;
+      step = step_as (try_worked g.E.Coeff.Field.ops (g.E.Encoding.lists s.encoding) s.graph s.degree s.infeasible c.args.i c.args.j edge.lower edge.higher e.0 e.1 e.2 c.args.degree c.if-degree-lt-FIRST_DEGREE.false c.if-degree-gt-LAST_DEGREE.false c.graph.result.now there (memory c.args.table.now c.args.certificate.now) c.in_ok-verdict.verdict _ (sym c.joins.ensures ∙ c.if-joins.false) w.0 w.1) refl end;
       same = solver_back s c.drop-trial-2.new.self.0 _ again;
     }
