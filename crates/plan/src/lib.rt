@@ -18,8 +18,7 @@ pub const TABLE: usize = 65536;
 pub const CERTIFICATE: usize = 16384;
 
 /// Writes the answers to a plan into `text`, and says how many bytes they are, or -4 where `text` is too short for them.
-#[unsafe(no_mangle)]
-pub extern "C" fn tracks_plan(plan: &[u8], text: &mut [u8]) -> i64
+pub fn tracks_plan(plan: &[u8], text: &mut [u8]) -> i64
     ensures { Entry plan.now text.old result text.new }
 {
     let mut table = [Bit::zero(); TABLE];
