@@ -1,8 +1,8 @@
 -- Adding a term of a product into its column. Assumes nothing.
-use Rattle.std.proofs.Common.{◌≡◌, ℕ, zero, suc, ◌+◌, ◌*◌, ◌<◌, ◌≤◌, Bool, true, false, cond, eqb, ◌⊎◌, List, [], ◌∷◌, length, get_or, take, set, sym, refl, ap, ◌∙◌, subst, inl, inr, arith, length-set, get_or-set_other}
+use Rattle.std.proofs.Common.{◌≡◌, ℕ, ◌+◌, ◌*◌, ◌<◌, ◌≤◌, cond, eqb, List, length, get_or, take, set, sym, refl, ap, ◌∙◌, subst, inl, inr, arith, length-set, get_or-set_other}
 use Rattle.std.proofs.lemmas.Bool.{cases_eq, eq-eqb, ne_eqb, cond-true, cond-false}
 use Rattle.fields.specs.Field.{Ops, Laws}
-use Rattle.algebra.specs.Grid.{cell, Kept}
+use Rattle.algebra.specs.Grid.{cell}
 use Rattle.algebra.proofs.Places.{cell_in, cell_set_same, cell_set_row, cell_set_column}
 use Rattle.algebra.proofs.Sums.{one-mul}
 use Rattle.monomials.specs.Order.{rank_of}

@@ -1,19 +1,16 @@
 -- Elimination of the filled matrix decides whether a certificate exists, and finds the one on independent products.
 -- Assumes nothing.
-use Rattle.std.proofs.Common.{◌≡◌, ℕ, zero, suc, ◌+◌, ◌-◌, ◌*◌, ◌<◌, ◌≤◌, Bool, true, false, List, [], ◌∷◌, length, get_or, sym, refl, ap, ◌∙◌, subst, arith}
-use Rattle.std.specs.List.{AllByRecursion as All}
+use Rattle.std.proofs.Common.{◌≡◌, ℕ, suc, ◌+◌, ◌-◌, ◌*◌, ◌<◌, ◌≤◌, Bool, true, List, [], ◌∷◌, length, get_or, sym, ap, ◌∙◌, subst, arith}
 use Rattle.fields.specs.Field.{Ops, Laws}
 use Rattle.algebra.specs.Grid.{cell}
-use Rattle.algebra.specs.Linear.{sum, Represents, ColumnComb, Dependent, OnIndependent}
+use Rattle.algebra.specs.Linear.{Represents, ColumnComb, Dependent, OnIndependent}
 use Rattle.algebra.specs.Reduced.{Solved}
 use Rattle.algebra.proofs.Sums.{sum_same}
 use Rattle.coloring.specs.Absent.{absent}
 use Rattle.coloring.specs.Encoding.{Sound, Bounded}
 use Rattle.polynomials.specs.declared.term.Term.{Term}
-use Rattle.polynomials.specs.Certificate.{Certified}
-use Rattle.polynomials.specs.Polynomial.{IsOne}
-use Rattle.polynomials.specs.Monomial.{Monomial, Within, Formed, count}
-use Rattle.polynomials.specs.Product.{products, combination, DependentProduct, UsesIndependent, entry, target}
+use Rattle.polynomials.specs.Monomial.{Within, Formed, count}
+use Rattle.polynomials.specs.Product.{products, DependentProduct, entry, target}
 use Rattle.polynomials.proofs.Certificates.{matrix_decides}
 use Rattle.certificates.specs.Matrix.{Filled}
 use Rattle.certificates.specs.Outcome.{Chosen, Decided}

@@ -1,10 +1,10 @@
 -- Which ground a degree is refused on, from its sizes. Assumes nothing.
-use Rattle.std.proofs.Common.{◌≡◌, ℕ, ◌+◌, ◌*◌, ◌<◌, ◌≤◌, ◌⊎◌, List, ◌++◌, sym, refl, ap, ◌∙◌, subst, inl, inr, mul-le-mul_right, one-mul, arith}
+use Rattle.std.proofs.Common.{ℕ, ◌+◌, ◌*◌, ◌<◌, ◌≤◌, ◌++◌, refl, ap, subst, inl, inr, mul-le-mul_right, one-mul, arith}
 use Rattle.polynomials.proofs.Ranks.{count_positive}
 use Rattle.certificates.specs.declared.refusal.Refusal.TheVariants.{TableTooSmall, OutputTooSmall, LastDegree, TooLarge}
 use Rattle.certificates.specs.declared.sizes.Sizes.{Sizes}
 use Rattle.certificates.specs.Measures.{Excess, Measured}
-use Rattle.certificates.specs.Grounds.{First, Clear, limit, room, Fitted}
+use Rattle.certificates.specs.Grounds.{First, limit, room, Fitted}
 
 -- the sizes are within the limit
 pub not_excess : (e n d : ℕ) (z : Sizes) → Measured e n d z → Excess e n d → ⊥

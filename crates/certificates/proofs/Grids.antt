@@ -1,7 +1,7 @@
 -- A grid's slice from call to call: it stays the same slice, with room for the same rows and columns. Assumes nothing.
 use Rattle.std.proofs.Common.{◌≡◌, ℕ, ◌+◌, ◌*◌, ◌<◌, ◌≤◌, List, length, get_or, take, set, sym, refl, ap, ◌∙◌, subst, arith, length-set, get_or-set_other}
 use Rattle.fields.specs.Field.{Ops, Laws}
-use Rattle.algebra.specs.Grid.{Fits, Kept, cell}
+use Rattle.algebra.specs.Grid.{Kept, cell}
 use Rattle.algebra.specs.Held.{held, Roomy, Held, Inside, Got, Put}
 use Rattle.algebra.specs.declared.elimination.grid.Grid.{Grid}
 use Rattle.monomials.specs.Order.{rank_of}

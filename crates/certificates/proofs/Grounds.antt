@@ -1,5 +1,5 @@
 -- The first ground of two lists, one after the other, and that there is one. Assumes nothing.
-use Rattle.std.proofs.Common.{◌≡◌, ◌⊎◌, List, [], ◌∷◌, ◌++◌, sym, ◌∙◌, inl, inr}
+use Rattle.std.proofs.Common.{◌≡◌, List, [], ◌∷◌, ◌++◌, sym, ◌∙◌, inl, inr}
 use Rattle.certificates.specs.declared.refusal.Refusal.{Refusal}
 use Rattle.certificates.specs.Grounds.{Ground, First, Clear}
 

@@ -1,12 +1,11 @@
 -- The multiplier that is written into the front of 24 zeros. Assumes nothing.
-use Rattle.std.proofs.Common.{◌≡◌, ℕ, zero, suc, ◌+◌, ◌-◌, ◌<◌, ◌≤◌, Bool, true, false, List, [], ◌++◌, length, get_or, take, drop, replicate, MatchBool, sym, refl, ap, ◌∙◌, subst, arith, length-take}
+use Rattle.std.proofs.Common.{◌≡◌, ℕ, ◌+◌, ◌-◌, ◌<◌, ◌≤◌, Bool, true, false, List, [], ◌++◌, length, get_or, take, drop, replicate, MatchBool, sym, ap, ◌∙◌, arith, length-take}
 use Rattle.std.proofs.lemmas.List.{drop-replicate}
-use Rattle.monomials.specs.Choose.{choose}
-use Rattle.monomials.specs.Order.{at_most, Onto}
+use Rattle.monomials.specs.Order.{at_most}
 use Rattle.monomials.specs.Reach.{reached, Written}
 use Rattle.monomials.proofs.Places.{onto}
 use Rattle.monomials.proofs.Reach.{reached_inside}
-use Rattle.polynomials.specs.Monomial.{monomial_at, padded, count}
+use Rattle.polynomials.specs.Monomial.{monomial_at, count}
 use Rattle.polynomials.specs.Polynomial.{zeros}
 
 taken : (b : Bool) (P Q : Type 0) → b ≡ true → MatchBool b P Q → P

@@ -1,14 +1,14 @@
 -- Working a degree has one verdict, and leaves one memory. Assumes nothing.
-use Rattle.std.proofs.Common.{◌≡◌, ℕ, zero, suc, ◌+◌, ◌*◌, ◌^◌, ◌<◌, ◌≤◌, Bool, cond, not, ◌&&◌, eqb, ltb, ◌⊎◌, List, [], ◌∷◌, ◌++◌, length, sym, refl, ap, ◌∙◌, inl, inr, arith, le-ltb}
+use Rattle.std.proofs.Common.{◌≡◌, ℕ, zero, suc, ◌+◌, ◌*◌, ◌^◌, ◌<◌, ◌≤◌, Bool, cond, not, ◌&&◌, eqb, ltb, List, [], ◌∷◌, ◌++◌, length, sym, refl, ap, ◌∙◌, inl, inr, arith, le-ltb}
 use Rattle.std.proofs.lemmas.Bool.{cases_lt}
 use Rattle.fields.specs.Field.{Ops, Laws}
 use Rattle.polynomials.specs.declared.term.Term.{Term}
 use Rattle.polynomials.specs.Product.{products}
 use Rattle.polynomials.proofs.Certificates.{products_suffice}
 use Rattle.certificates.specs.declared.verdict.Verdict.{Verdict}
-use Rattle.certificates.specs.declared.verdict.Verdict.TheVariants.{Infeasible, Open}
+use Rattle.certificates.specs.declared.verdict.Verdict.TheVariants.{Infeasible}
 use Rattle.layout.specs.Certificate.{upto, present, bits, map_of, code_of, codes_of, bytes_of, head_of, over}
-use Rattle.certificates.specs.Outcome.{Memory, memory, Chosen, cleared, written, Worked, certified, uncertified}
+use Rattle.certificates.specs.Outcome.{Memory, memory, cleared, written, Worked, certified, uncertified}
 use Rattle.layout.specs.Length.{map_bytes}
 
 -- the bytes depend on the coefficients of the products alone

@@ -5,7 +5,7 @@ use Rattle.algebra.specs.Grid.{Kept}
 use Rattle.algebra.specs.Linear.{sum}
 use Rattle.polynomials.specs.declared.term.Term.{Term}
 use Rattle.polynomials.specs.Monomial.{Formed, count}
-use Rattle.polynomials.specs.Polynomial.{IsOne, coefficient}
+use Rattle.polynomials.specs.Polynomial.{IsOne}
 use Rattle.polynomials.specs.Product.{products, combination, entry}
 use Rattle.polynomials.proofs.Certificates.{matrix_decides}
 use Rattle.certificates.specs.declared.sizes.Sizes.{Sizes}

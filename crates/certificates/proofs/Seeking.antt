@@ -1,6 +1,6 @@
 -- From coefficients in front of a table to a written certificate, and from a blanked grid to a cleared table.
 -- Assumes nothing.
-use Rattle.std.proofs.Common.{◌≡◌, ℕ, zero, suc, ◌+◌, ◌-◌, ◌*◌, ◌<◌, ◌≤◌, ◌⊎◌, List, [], ◌∷◌, ◌++◌, length, get_or, take, drop, replicate, Some, None, Option, sym, refl, ap, ◌∙◌, subst, inl, inr, arith, length-append, length-drop, length-take, get_or-drop, get_or-take}
+use Rattle.std.proofs.Common.{◌≡◌, ℕ, zero, suc, ◌+◌, ◌-◌, ◌<◌, ◌≤◌, ◌⊎◌, List, ◌++◌, length, get_or, take, drop, replicate, Some, None, Option, sym, refl, ap, ◌∙◌, subst, inl, inr, arith, length-append, length-drop, length-take, get_or-drop, get_or-take}
 use Rattle.std.proofs.lemmas.Bool.{cases_lt}
 use Rattle.std.proofs.lemmas.List.{get_or_append_left, get_or-append_right, length-replicate, get_or-replicate}
 use Rattle.fields.specs.Field.{Ops}
@@ -10,7 +10,7 @@ use Rattle.polynomials.specs.Polynomial.{IsOne, scaled}
 use Rattle.polynomials.specs.Product.{product, products, weighted, combination}
 use Rattle.layout.specs.Certificate.{bytes_of, over}
 use Rattle.certificates.specs.declared.verdict.Verdict.TheVariants.{Infeasible, Open}
-use Rattle.certificates.specs.Outcome.{Memory, memory, Chosen, Sought, written, cleared, Worked, certified, uncertified}
+use Rattle.certificates.specs.Outcome.{memory, Chosen, Sought, written, cleared, Worked, certified, uncertified}
 use Rattle.layout.specs.Length.{certificate_bytes}
 use Rattle.layout.specs.Written.{Stored}
 use Rattle.certificates.proofs.Lists.{same_places}

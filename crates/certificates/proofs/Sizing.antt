@@ -1,13 +1,12 @@
 -- Counting a degree's matrix from a capped table. Assumes nothing.
-use Rattle.std.proofs.Common.{◌≡◌, ℕ, zero, suc, ◌+◌, ◌*◌, ◌/◌, ◌<◌, ◌≤◌, min, ◌⊎◌, Some, None, Option, sym, refl, ap, ◌∙◌, subst, inl, inr, mul-le-mul, arith}
+use Rattle.std.proofs.Common.{◌≡◌, ℕ, ◌+◌, ◌*◌, ◌/◌, ◌<◌, ◌≤◌, min, Some, None, ap, ◌∙◌, subst, inl, inr, mul-le-mul, arith}
 use Rattle.monomials.specs.Choose.{choose}
 use Rattle.monomials.specs.Reach.{count_for}
 use Rattle.monomials.proofs.Binomials.{choose_mono}
 use Rattle.monomials.proofs.Reach.{count_inside}
 use Rattle.certificates.specs.declared.sizes.Sizes.{Sizes}
-use Rattle.layout.specs.Length.{map_bytes, certificate_bytes}
-use Rattle.certificates.specs.Sizes.{multipliers, products, rows, cells}
-use Rattle.certificates.specs.Measures.{sizes_of, Excess, Measured}
+use Rattle.certificates.specs.Sizes.{multipliers, products, rows}
+use Rattle.certificates.specs.Measures.{Excess, Measured}
 
 -- a count that the table has
 tabled : (n e k : ℕ) → n ≤ 24 → n + e ≤ 75 → Some k ≡ count_for n e → k ≡ min 1000001 (choose (n + e) n)

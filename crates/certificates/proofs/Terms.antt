@@ -1,5 +1,5 @@
 -- The terms of a product: their exponents fit a byte, and their monomials have a rank. Assumes nothing.
-use Rattle.std.proofs.Common.{◌≡◌, ℕ, zero, suc, ◌+◌, ◌-◌, ◌*◌, ◌<◌, ◌≤◌, List, [], ◌∷◌, length, get_or, take, Some, sym, refl, ap, ◌∙◌, subst, arith, length-take}
+use Rattle.std.proofs.Common.{◌≡◌, ℕ, zero, suc, ◌+◌, ◌-◌, ◌<◌, ◌≤◌, List, [], ◌∷◌, length, get_or, take, Some, sym, ap, ◌∙◌, subst, arith, length-take}
 use Rattle.fields.specs.Field.{Ops}
 use Rattle.coloring.specs.Encoding.{Sound}
 use Rattle.monomials.specs.Choose.{choose}

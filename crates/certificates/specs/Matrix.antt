@@ -1,6 +1,6 @@
 -- The matrix of a degree d in a list of cells: a row for each monomial that can occur, a column for each product, and a last
 -- column for the polynomial one. Assumes nothing.
-use Rattle.std.specs.Prelude.{◌≡◌, ℕ, ◌+◌, ◌*◌, ◌<◌, ◌≤◌, List, length, ◌≢◌}
+use Rattle.std.specs.Prelude.{◌≡◌, ℕ, ◌+◌, ◌*◌, ◌<◌, ◌≤◌, List, ◌≢◌}
 use Rattle.fields.specs.Field.{Ops}
 use Rattle.algebra.specs.Grid.{cell, Kept}
 use Rattle.polynomials.specs.declared.term.Term.{Term}

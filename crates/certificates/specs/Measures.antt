@@ -1,5 +1,5 @@
 -- What the sizes of a degree's matrix are as the program holds them: e equations, n vertices, degree d. Assumes nothing.
-use Rattle.std.specs.Prelude.{◌≡◌, ℕ, ◌+◌, ◌*◌, ◌<◌, ◌≤◌, ◌⊎◌}
+use Rattle.std.specs.Prelude.{◌≡◌, ℕ, ◌<◌, ◌≤◌, ◌⊎◌}
 use Rattle.certificates.specs.declared.sizes.Sizes.{Sizes}
 use Rattle.layout.specs.Length.{map_bytes, certificate_bytes}
 use Rattle.certificates.specs.Sizes.{multipliers, products, rows, cells}

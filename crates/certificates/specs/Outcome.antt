@@ -1,6 +1,6 @@
 -- What working a degree comes to: the certificate of that degree that uses independent products only, or that there is none.
 -- n vertices, degree d, and the equations that an encoding lists. Assumes nothing.
-use Rattle.std.specs.Prelude.{◌≡◌, ℕ, ◌+◌, ◌*◌, ◌<◌, Bool, true, false, List, ◌++◌, length, drop, replicate, Some, None, Option, slice_index_or}
+use Rattle.std.specs.Prelude.{◌≡◌, ℕ, ◌<◌, Bool, true, false, List, ◌++◌, length, drop, replicate, Some, None, Option, slice_index_or}
 use Rattle.fields.specs.Field.{Ops}
 use Rattle.polynomials.specs.declared.term.Term.{Term}
 use Rattle.polynomials.specs.Certificate.{Certified}

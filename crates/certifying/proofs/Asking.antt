@@ -1,12 +1,12 @@
 -- A line of a script is cut in one way only, and its letter tells what it asks. Assumes nothing.
-use Rattle.std.proofs.Common.{◌≡◌, ℕ, ◌+◌, ◌-◌, ◌*◌, ◌/◌, ◌%◌, ◌<◌, ◌≤◌, ◌⊎◌, List, [], ◌∷◌, ◌++◌, length, get_or, take, drop, Some, None, Option, sym, refl, ap, ◌∙◌, subst, ⊎_elim, arith}
+use Rattle.std.proofs.Common.{◌≡◌, ℕ, ◌+◌, ◌-◌, ◌*◌, ◌%◌, ◌<◌, ◌≤◌, List, [], ◌∷◌, ◌++◌, length, get_or, take, drop, Some, None, Option, sym, refl, ap, ◌∙◌, subst, arith}
 use Rattle.std.proofs.lemmas.List.{length-append, get_or_at, get_or_append_left, get_or-append_right, get_or-take, take_at, drop_at, drop_more, take-append-drop, append_assoc, same_lists, get_or_default}
 use Rattle.nulla.specs.declared.call.Call.{Call}
 use Rattle.nulla.specs.Requests.{Request, try_edge, check_certificate, IsCheck}
 use Rattle.plan.specs.Lines.{Found}
 use Rattle.plan.specs.Spelling.{Decimal, Names, Spells, opens, adds, removes, raises, Malformed, Parsed as PlanParsed}
 use Rattle.plan.proofs.Spelled.{found_once, names_found, names_once, spelled_once}
-use Rattle.certifying.specs.Hexadecimal.{HexDigits, byte_at, Writes}
+use Rattle.certifying.specs.Hexadecimal.{HexDigits, Writes}
 use Rattle.certifying.specs.Script.{NamesThree, Hands, HandsDigits, Asks, planned, tries, checks, AskedOnce, Unchecked, Parsed}
 
 -- A line cut at its second space after the letter's.

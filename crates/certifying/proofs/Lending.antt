@@ -1,5 +1,5 @@
 -- What a vector holds after it was lent whole: what was left in the loan. Assumes nothing.
-use Rattle.std.proofs.Common.{◌≡◌, ℕ, ◌≤◌, List, ◌++◌, length, take, drop, sym, ap, ◌∙◌, subst, arith}
+use Rattle.std.proofs.Common.{◌≡◌, ℕ, ◌≤◌, List, ◌++◌, length, take, drop, ◌∙◌, arith}
 use lib.Seq.{take-append-le}
 use Rattle.std.proofs.lemmas.List.{take_all}
 use Rattle.fields.specs.Field.{Ops}

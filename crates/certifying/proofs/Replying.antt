@@ -1,5 +1,5 @@
 -- The reply to a line, put together from what the line hands over or says. Assumes nothing.
-use Rattle.std.proofs.Common.{◌≡◌, ℕ, ◌+◌, ◌-◌, ◌*◌, ◌/◌, ◌<◌, ◌≤◌, List, ◌++◌, map, length, take, drop, sym, ap, ◌∙◌, subst, arith}
+use Rattle.std.proofs.Common.{◌≡◌, ℕ, ◌-◌, ◌*◌, ◌/◌, ◌<◌, ◌≤◌, List, ◌++◌, map, length, take, drop, sym, ap, subst, arith}
 use Rattle.std.specs.List.{range_with_len}
 use Rattle.std.proofs.lemmas.List.{take_at}
 use Rattle.std.proofs.lemmas.List.FromFn.{length-map-range_with_len, get_or-map-range_with_len}
@@ -11,7 +11,7 @@ use Rattle.nulla.specs.declared.reply.Reply.TheVariants.{Refused}
 use Rattle.nulla.specs.Requests.{Request, check_certificate, IsCheck}
 use Rattle.nulla.specs.State.{State}
 use Rattle.nulla.specs.Steps.{Lists, Step}
-use Rattle.plan.specs.Texts.{Turn, says, unsaid}
+use Rattle.plan.specs.Texts.{Turn, says}
 use Rattle.certifying.specs.Hexadecimal.{byte_at, Writes}
 use Rattle.certifying.specs.Script.{HandsDigits, Asks, planned, tries, checks, Unchecked, Fits, Replied, turned, too_long, Holds, decoded, left}
 use Rattle.certifying.proofs.Asking.{unspelled, hands, hands_long, handed_asks}

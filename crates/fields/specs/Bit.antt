@@ -1,5 +1,5 @@
 -- The field of two elements: the sum is exclusive or, the product is and. Assumes nothing.
-use Rattle.std.specs.Prelude.{◌≡◌, ℕ, zero, suc, ◌<◌, ◌≤◌, Bool, true, false, cond, ◌&&◌, T, refl}
+use Rattle.std.specs.Prelude.{◌≡◌, ℕ, zero, suc, ◌<◌, Bool, true, false, cond, ◌&&◌, T, refl}
 use Rattle.std.proofs.Common.{sym, ap, ◌∙◌, arith, lit<, lit≤}
 use Rattle.fields.specs.Field.{Ops, Laws}
 use Rattle.fields.specs.Bools.{xor, agree, agree_is, every, every_at}

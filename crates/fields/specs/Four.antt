@@ -1,5 +1,5 @@
 -- The field of four elements u + aα over the bits, where α·α = α + 1. The code of α is 2, and a sum's code is the exclusive or of the codes. Assumes nothing.
-use Rattle.std.specs.Prelude.{◌≡◌, ℕ, zero, suc, ◌<◌, ◌≤◌, Bool, true, false, cond, ◌&&◌, T, refl}
+use Rattle.std.specs.Prelude.{◌≡◌, ℕ, zero, suc, ◌<◌, Bool, true, false, cond, ◌&&◌, T, refl}
 use Rattle.std.proofs.Common.{sym, ap, ◌∙◌, arith, lit<, lit≤}
 use Rattle.fields.specs.Field.{Ops, Laws}
 use Rattle.fields.specs.Bools.{xor, agree, agree_is, and_first, and_second, every, every_at}

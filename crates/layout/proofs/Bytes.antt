@@ -5,7 +5,7 @@ use Rattle.std.proofs.lemmas.Nat.{pow_below}
 use Rattle.std.proofs.lemmas.Bool.{cases_lt, eq-eqb, ne_eqb, cond-true, cond-false}
 use Rattle.std.proofs.lemmas.List.{take_more_set}
 use Rattle.fields.specs.Field.{Ops}
-use Rattle.layout.specs.Certificate.{upto, present, bits, map_of, code_of, codes_of, over}
+use Rattle.layout.specs.Certificate.{upto, present, bits, code_of, over}
 use Rattle.layout.specs.Written.{Wrote, Ended}
 
 -- parts behind a place that agree still do behind a later one

@@ -1,5 +1,5 @@
 -- What a writer that goes from front to back has done, and when a certificate is stored. Assumes nothing.
-use Rattle.std.specs.Prelude.{◌≡◌, ℕ, ◌<◌, ◌≤◌, ◌⊎◌, List, length, take, drop, Some, None, Option, slice_index_or}
+use Rattle.std.specs.Prelude.{◌≡◌, ℕ, ◌<◌, ◌⊎◌, List, length, take, drop, Some, None, Option, slice_index_or}
 use Rattle.fields.specs.Field.{Ops}
 use Rattle.layout.specs.Length.{certificate_bytes}
 use Rattle.layout.specs.Certificate.{bytes_of, over}

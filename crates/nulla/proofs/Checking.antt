@@ -1,5 +1,5 @@
 -- The step of a check, from what checking a certificate comes to. Assumes nothing.
-use Rattle.std.proofs.Common.{◌≡◌, ℕ, ◌⊎◌, List, Ok, Err, Result, sym, refl, ap, ◌∙◌, subst, inl, inr}
+use Rattle.std.proofs.Common.{◌≡◌, ℕ, List, Ok, Err, Result, sym, subst, inl, inr}
 use Rattle.fields.specs.Field.{Ops}
 use Rattle.certificates.specs.declared.refusal.Refusal.{Refusal}
 use Rattle.certificates.specs.Checking.{Checks}

@@ -1,5 +1,5 @@
 -- The steps of opening a vertex, and of adding, removing and trying an edge, from what the graph's calls promise. Assumes nothing.
-use Rattle.std.proofs.Common.{◌≡◌, ℕ, ◌+◌, ◌<◌, ◌≤◌, min, max, Bool, true, false, cond, ltb, ◌⊎◌, List, [], ◌∷◌, ◌++◌, length, sym, refl, ap, ◌∙◌, subst, inl, inr, arith, ltb-false, ltb-true}
+use Rattle.std.proofs.Common.{◌≡◌, ℕ, ◌+◌, ◌<◌, ◌≤◌, min, max, Bool, true, false, cond, ◌⊎◌, List, ◌++◌, length, sym, refl, ap, ◌∙◌, subst, inl, inr, arith, ltb-false, ltb-true}
 use Rattle.fields.specs.Field.{Ops}
 use Rattle.graphs.specs.declared.graph.Graph.{Graph}
 use Rattle.graphs.specs.Graph.{joined, Opened, Marked}
@@ -13,7 +13,7 @@ use Rattle.nulla.specs.State.{State, state}
 use Rattle.certificates.specs.Outcome.{Memory, Worked}
 use Rattle.certificates.specs.Grounds.{Ground, First, Clear, limit, room}
 use Rattle.nulla.specs.Replies.{told}
-use Rattle.nulla.specs.Steps.{Lists, ends, ends_at, standing, lacking, joined_too, grounds, Step, refuses, answers, opens, adds, removes, tries}
+use Rattle.nulla.specs.Steps.{Lists, ends, ends_at, standing, lacking, joined_too, Step, refuses, answers, opens, adds, removes, tries}
 use Rattle.certificates.proofs.Grounds.{first_front, first_back, clear_both}
 use Rattle.nulla.proofs.States.{differ, same_state, marked_pairs, step_as}
 

@@ -1,9 +1,8 @@
 -- What a raise's verdict means. Assumes nothing.
-use Rattle.std.proofs.Common.{◌≡◌, ℕ, ◌+◌, ◌<◌, ◌≤◌, Bool, true, false, List, sym, refl, ap, ◌∙◌, subst, arith}
+use Rattle.std.proofs.Common.{◌≡◌, ℕ, ◌+◌, ◌≤◌, Bool, List, sym, refl, subst, arith}
 use Rattle.fields.specs.Field.{Ops, Laws}
 use Rattle.coloring.specs.Encoding.{Lawful}
 use Rattle.coloring.proofs.Certified.{no_coloring}
-use Rattle.polynomials.specs.declared.term.Term.{Term}
 use Rattle.polynomials.specs.Certificate.{Certified}
 use Rattle.polynomials.proofs.Certificates.{products_suffice}
 use Rattle.nulla.specs.Requests.{raise_degree, try_edge, check_certificate}
@@ -14,7 +13,6 @@ use Rattle.certificates.specs.declared.verdict.Verdict.{Verdict}
 use Rattle.certificates.specs.declared.verdict.Verdict.TheVariants.{Infeasible, Open}
 use Rattle.certificates.specs.Checking.{degree_of}
 use Rattle.certificates.specs.Outcome.{Memory, Worked, certified, uncertified}
-use Rattle.certificates.specs.Verdicts.{infeasible}
 use Rattle.nulla.specs.Replies.{told}
 use Rattle.nulla.specs.State.{State}
 use Rattle.nulla.specs.Steps.{Lists, joined_too, Answers, works, tries, passes, fails, Step, refuses, answers}

@@ -1,12 +1,12 @@
 -- The rules give each call one reply, one state and one memory after it. Assumes nothing.
-use Rattle.std.proofs.Common.{◌≡◌, ℕ, ◌+◌, ◌<◌, ◌≤◌, ◌⊎◌, refl, ap, inl, inr, arith}
+use Rattle.std.proofs.Common.{ℕ, ◌+◌, ◌≤◌, refl, ap, inl, inr, arith}
 use Rattle.std.proofs.lemmas.Bool.{cases_lt}
 use Rattle.fields.specs.Field.{Ops, Laws}
 use Rattle.nulla.specs.Requests.{Request}
 use Rattle.nulla.specs.declared.reply.Reply.{Reply}
 use Rattle.nulla.specs.declared.reply.Reply.TheVariants.{Refused}
 use Rattle.certificates.specs.declared.verdict.Verdict.{Verdict}
-use Rattle.certificates.specs.Grounds.{First, Clear}
+use Rattle.certificates.specs.Grounds.{Clear}
 use Rattle.certificates.specs.Outcome.{Memory}
 use Rattle.certificates.specs.Verdicts.{infeasible}
 use Rattle.certificates.proofs.Grounds.{first_one, not_both}

@@ -1,6 +1,6 @@
 -- A degree has a verdict, and it is known whether a certificate passes its check. Assumes nothing.
-use Rattle.std.proofs.Common.{◌≡◌, ℕ, zero, suc, ◌+◌, ◌<◌, true, false, cond, List, length, sym, refl, ap, ◌∙◌, inl, inr, arith}
-use Rattle.std.proofs.lemmas.Bool.{cases_lt, cases_eq, cases_Bool, both_ways, cond-true}
+use Rattle.std.proofs.Common.{◌≡◌, ℕ, ◌+◌, ◌<◌, List, length, ap, ◌∙◌, inl, inr}
+use Rattle.std.proofs.lemmas.Bool.{cases_eq}
 use Rattle.fields.specs.Field.{Ops, Laws}
 use Rattle.algebra.specs.Linear.{sum}
 use Rattle.algebra.proofs.Alternatives.{alternative, never_both}
@@ -14,11 +14,11 @@ use Rattle.polynomials.proofs.Certificates.{matrix_decides}
 use Rattle.polynomials.proofs.Independence.{certificates_independent}
 use Rattle.certificates.specs.declared.verdict.Verdict.{Verdict}
 use Rattle.certificates.specs.declared.verdict.Verdict.TheVariants.{Infeasible, Open}
-use Rattle.certificates.specs.Checking.{degree_of, BadCode, faults, Passes}
+use Rattle.certificates.specs.Checking.{degree_of, faults, Passes}
 use Rattle.certificates.specs.Grounds.{Clear}
 use Rattle.certificates.specs.Outcome.{Memory, memory, Chosen, cleared, written, Worked, certified, uncertified}
 use Rattle.layout.specs.Certificate.{over}
-use Rattle.layout.specs.Reading.{stands, before, code_at, Means}
+use Rattle.layout.specs.Reading.{before}
 use Rattle.layout.specs.Length.{map_bytes}
 use Rattle.certificates.proofs.Standing.{codes_below}
 use Rattle.layout.proofs.Inverse.{reading, inverse}

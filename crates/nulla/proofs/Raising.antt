@@ -1,5 +1,5 @@
 -- The step of a raise, from what working its degree comes to. Assumes nothing.
-use Rattle.std.proofs.Common.{◌≡◌, ℕ, ◌+◌, ◌<◌, ◌≤◌, Bool, true, false, ◌⊎◌, List, ◌++◌, length, Ok, Err, sym, refl, ap, ◌∙◌, subst, inl, inr, arith}
+use Rattle.std.proofs.Common.{◌≡◌, ℕ, ◌+◌, Bool, true, false, List, ◌++◌, length, sym, refl, ◌∙◌, subst, inl, inr, arith}
 use Rattle.fields.specs.Field.{Ops}
 use Rattle.nulla.specs.Requests.{raise_degree}
 use Rattle.certificates.specs.declared.refusal.Refusal.{Refusal}
@@ -10,7 +10,7 @@ use Rattle.certificates.specs.Outcome.{Memory, Worked}
 use Rattle.certificates.specs.Verdicts.{infeasible}
 use Rattle.nulla.specs.Replies.{told}
 use Rattle.nulla.specs.State.{State, state}
-use Rattle.certificates.specs.Grounds.{Ground, First, Clear, limit, room, Works}
+use Rattle.certificates.specs.Grounds.{Ground, First, Clear, limit, room}
 use Rattle.nulla.specs.Steps.{Lists, grounds, Step, refuses, answers, works}
 use Rattle.nulla.proofs.States.{differ, same_state, step_as}
 

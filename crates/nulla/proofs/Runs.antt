@@ -1,6 +1,5 @@
 -- What holds of lists of calls. Assumes nothing.
-use Rattle.std.proofs.Common.{◌≡◌, ℕ, zero, suc, ◌+◌, ◌<◌, ◌≤◌, min, max, Bool, true, false, cond, ◌⊎◌, List, [], ◌∷◌, ◌++◌, length, get_or, take, sym, refl, ap, ◌∙◌, subst, inl, inr, arith}
-use Rattle.std.proofs.lemmas.Bool.{cases_lt, cond-true}
+use Rattle.std.proofs.Common.{◌≡◌, ℕ, zero, suc, ◌+◌, ◌≤◌, min, max, Bool, true, false, cond, List, take, sym, refl, ap, ◌∙◌, subst, arith}
 use Rattle.fields.specs.Field.{Ops, Laws}
 use Rattle.coloring.specs.Coloring.{Color, Proper}
 use Rattle.coloring.specs.Encoding.{Bounded, Lawful, Joins}
@@ -8,15 +7,12 @@ use Rattle.coloring.proofs.Certified.{no_coloring, grows_vertex, grows_edge}
 use Rattle.polynomials.specs.Certificate.{Certified}
 use Rattle.nulla.specs.Requests.{Request, Removes}
 use Rattle.nulla.specs.declared.reply.Reply.{Reply}
-use Rattle.certificates.specs.declared.verdict.Verdict.{Verdict}
-use Rattle.certificates.specs.declared.verdict.Verdict.TheVariants.{Infeasible, Open}
-use Rattle.certificates.specs.Outcome.{Memory, Worked, certified, uncertified}
+use Rattle.certificates.specs.Outcome.{Memory}
 use Rattle.certificates.specs.Verdicts.{infeasible}
-use Rattle.nulla.specs.Replies.{told}
-use Rattle.nulla.specs.State.{State, state, fresh, with_pair, kept_degree, with_vertex, with_edge, without_edge, raised}
+use Rattle.nulla.specs.State.{State, state, fresh, with_pair, without_edge, raised}
 use Rattle.certificates.specs.Grounds.{Clear}
-use Rattle.nulla.specs.Steps.{Lists, grounds, Answers, joined_too, opens, adds, removes, works, tries, passes, fails, Step, refuses, answers}
-use Rattle.nulla.specs.Runs.{Asked, Answered, Runs, done, next, Truthful, Stands, Stays, OneSolver}
+use Rattle.nulla.specs.Steps.{Lists, grounds, Answers, opens, adds, removes, works, tries, passes, fails, Step, refuses, answers}
+use Rattle.nulla.specs.Runs.{Asked, Answered, Runs, done, next, Truthful, Stays, OneSolver}
 use Rattle.nulla.proofs.Meaning.{worked_means, passed_certified, verdicts_mean}
 use Rattle.nulla.proofs.Once.{one_outcome, step_few}
 use Rattle.nulla.proofs.Existence.{every_list_runs}

@@ -1,5 +1,5 @@
 -- A trial answers as a raise does on a solver in which the edge stands. Assumes nothing.
-use Rattle.std.proofs.Common.{◌≡◌, ℕ, ◌+◌, ◌<◌, ◌≤◌, Bool, true, false, ◌⊎◌, List, [], ◌∷◌, ◌++◌, length, sym, refl, ap, ◌∙◌, inl, inr, arith}
+use Rattle.std.proofs.Common.{◌≡◌, ℕ, ◌+◌, ◌≤◌, false, List, [], ◌∷◌, ◌++◌, length, sym, refl, ap, inl, inr, arith}
 use Rattle.fields.specs.Field.{Ops, Laws}
 use Rattle.certificates.specs.declared.refusal.Refusal.{Refusal}
 use Rattle.certificates.specs.Grounds.{Ground, First, Clear, room}

@@ -1,30 +1,28 @@
 -- Two solvers over two fields that get the same calls answer alike. Assumes nothing.
-use Rattle.std.proofs.Common.{◌≡◌, ℕ, zero, suc, ◌+◌, ◌*◌, ◌/◌, ◌%◌, ◌<◌, ◌≤◌, Bool, true, false, ◌⊎◌, List, [], ◌∷◌, ◌++◌, map, length, get_or, drop, sym, refl, ap, ◌∙◌, subst, inl, inr, arith}
+use Rattle.std.proofs.Common.{◌≡◌, ℕ, zero, suc, ◌*◌, ◌/◌, ◌%◌, ◌<◌, ◌≤◌, Bool, List, ◌∷◌, ◌++◌, length, get_or, drop, sym, refl, ap, ◌∙◌, subst, arith}
 use lib.ListN.{length-map}
 use Rattle.std.proofs.lemmas.List.{get_or_append_left}
 use Rattle.fields.specs.Field.{Ops, Laws}
 use Rattle.coloring.specs.Encoding.{Bounded}
 use Rattle.polynomials.specs.declared.term.Term.{Term}
-use Rattle.polynomials.specs.Certificate.{Certified}
-use Rattle.polynomials.specs.Image.{SameOnes, exponents_of}
+use Rattle.polynomials.specs.Image.{SameOnes}
 use Rattle.polynomials.specs.Monomial.{Formed, count}
 use Rattle.polynomials.specs.Product.{products}
 use Rattle.polynomials.proofs.Certificates.{products_suffice}
 use Rattle.polynomials.proofs.Independence.{certificates_agree}
 use Rattle.nulla.specs.Requests.{Request, open_vertex, add_edge, remove_edge, raise_degree, try_edge, check_certificate, SameRequest, same as one-request, checks, IsCheck}
-use Rattle.certificates.specs.declared.refusal.Refusal.{Refusal}
 use Rattle.nulla.specs.declared.reply.Reply.{Reply}
 use Rattle.nulla.specs.declared.reply.Reply.TheVariants.{Refused}
 use Rattle.certificates.specs.declared.verdict.Verdict.{Verdict}
-use Rattle.certificates.specs.declared.verdict.Verdict.TheVariants.{Infeasible, Open}
-use Rattle.layout.specs.Certificate.{map_of, codes_of, head_of, bytes_of, over}
+use Rattle.certificates.specs.declared.verdict.Verdict.TheVariants.{Infeasible}
+use Rattle.layout.specs.Certificate.{map_of, codes_of}
 use Rattle.certificates.specs.Outcome.{Memory, Chosen, Worked, certified, uncertified, written}
 use Rattle.certificates.specs.Verdicts.{infeasible}
 use Rattle.nulla.specs.Replies.{told}
-use Rattle.nulla.specs.State.{State, fresh, raised}
-use Rattle.certificates.specs.Grounds.{Ground, First, Clear, room}
+use Rattle.nulla.specs.State.{State, raised}
+use Rattle.certificates.specs.Grounds.{First, Clear, room}
 use Rattle.nulla.specs.Steps.{Lists, ends_at, standing, raising, joined_too, grounds, Answers, opens, adds, removes, works, tries, passes, fails, Step, refuses, answers}
-use Rattle.nulla.specs.Runs.{Asked, Answered, Runs, done, next, SameAsked, SameCalls, SameBytes, SameAnswered, SameAnswers, no_more, one_more, TwoSolvers}
+use Rattle.nulla.specs.Runs.{Asked, Answered, Runs, done, next, SameCalls, SameBytes, SameAnswers, no_more, one_more, TwoSolvers}
 use Rattle.certificates.proofs.Deciding.{formed}
 use Rattle.certificates.proofs.Grounds.{first_one, not_both}
 use Rattle.certificates.proofs.Once.{tail_same}

@@ -1,6 +1,6 @@
 -- The rules of a solver: the grounds on which each call is refused, in their order, and what an accepted call answers and leaves.
 -- Assumes nothing.
-use Rattle.std.specs.Prelude.{◌≡◌, ℕ, ◌+◌, ◌*◌, ◌<◌, ◌≤◌, min, max, Bool, true, false, ◌⊎◌, List, [], ◌∷◌, ◌++◌, length}
+use Rattle.std.specs.Prelude.{◌≡◌, ℕ, ◌+◌, ◌<◌, ◌≤◌, min, max, Bool, true, false, ◌⊎◌, List, [], ◌∷◌, ◌++◌, length}
 use Rattle.fields.specs.Field.{Ops}
 use Rattle.polynomials.specs.declared.term.Term.{Term}
 use Rattle.certificates.specs.declared.refusal.Refusal.{Refusal}

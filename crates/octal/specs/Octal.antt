@@ -1,5 +1,5 @@
 -- The field of eight elements u + aα + sα² over the bits, where α³ = α + 1. The code of α is 2, that of α² is 4. Assumes nothing.
-use Rattle.std.specs.Prelude.{◌≡◌, refl, Bool, true, false, ◌&&◌, cond, ℕ, zero, suc, ◌+◌, ◌<◌, ◌≤◌, T, ltb}
+use Rattle.std.specs.Prelude.{◌≡◌, refl, Bool, true, false, ◌&&◌, cond, ℕ, zero, suc, ◌+◌, ◌<◌, T, ltb}
 use Rattle.std.proofs.Common.{sym, ap, ◌∙◌, arith, ltb→lt, lit≤}
 use Rattle.fields.specs.Field.{Ops, Laws}
 use Rattle.fields.specs.Bools.{xor, agree, agree_is, and_first, and_second, every, every_at}

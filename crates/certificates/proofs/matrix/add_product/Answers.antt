@@ -1,6 +1,5 @@
-use Rattle.std.proofs.Common.{◌≡◌, ℕ, ◌+◌, ◌<◌, ◌≤◌, List, [], length, get_or, take, Some, None, sym, refl, ap, ◌∙◌, subst, arith, take_all}
+use Rattle.std.proofs.Common.{◌≡◌, ◌+◌, ◌<◌, ◌≤◌, [], length, get_or, take, Some, sym, ◌∙◌, subst, arith, take_all}
 use Rattle.algebra.specs.Held.{held, Held}
-use Rattle.coloring.specs.Absent.{absent}
 use Rattle.coloring.specs.Encoding.{over, Sound}
 use Rattle.graphs.specs.Graph.{joined}
 use Rattle.monomials.specs.Order.{rank_of}

@@ -1,6 +1,6 @@
-use Rattle.std.proofs.Common.{◌≡◌, ℕ, ◌+◌, ◌*◌, ◌<◌, ◌≤◌, List, [], length, get_or, set, sym, refl, ap, ◌∙◌, subst, zero-mul, arith}
+use Rattle.std.proofs.Common.{◌≡◌, ℕ, ◌+◌, ◌*◌, ◌<◌, ◌≤◌, length, set, sym, ap, ◌∙◌, subst, zero-mul, arith}
 use Rattle.algebra.specs.Grid.{Kept}
-use Rattle.algebra.specs.Held.{held, Held, Roomy, Inside}
+use Rattle.algebra.specs.Held.{held, Inside}
 use Rattle.algebra.proofs.Places.{cell_in}
 use Rattle.coloring.specs.Encoding.{over}
 use Rattle.polynomials.specs.Monomial.{count}

@@ -1,4 +1,4 @@
-use Rattle.std.proofs.Common.{◌+◌, ◌*◌}
+use Rattle.std.proofs.Common.{◌*◌}
 use Rattle.algebra.specs.Grid.{Kept}
 use Rattle.algebra.specs.Held.{held, Held}
 use Rattle.coloring.specs.Encoding.{over}

@@ -1,6 +1,6 @@
-use Rattle.std.proofs.Common.{◌≡◌, ℕ, ◌+◌, ◌*◌, ◌<◌, ◌≤◌, length, sym, refl, ap, ◌∙◌, subst, add-zero, add-mul, one-mul, arith}
+use Rattle.std.proofs.Common.{◌≡◌, ℕ, ◌+◌, ◌*◌, ◌<◌, ◌≤◌, length, sym, ap, ◌∙◌, subst, add-zero, add-mul, one-mul, arith}
 use Rattle.algebra.specs.Grid.{Kept}
-use Rattle.algebra.specs.Held.{held, Held, Roomy}
+use Rattle.algebra.specs.Held.{held}
 use Rattle.coloring.specs.Encoding.{over}
 use Rattle.monomials.proofs.Binomials.{choose_mono}
 use Rattle.polynomials.specs.Monomial.{count, monomial_at, Monomial}

@@ -1,6 +1,6 @@
-use Rattle.std.proofs.Common.{◌≡◌, ℕ, ◌+◌, ◌*◌, ◌<◌, ◌≤◌, List, length, sym, refl, ap, ◌∙◌, subst, arith, rules}
-use Rattle.algebra.specs.Grid.{Kept, Fits}
-use Rattle.algebra.specs.Held.{held, Held, Roomy}
+use Rattle.std.proofs.Common.{◌≡◌, ℕ, ◌+◌, ◌*◌, ◌<◌, length, sym, ap, ◌∙◌, subst, arith, rules}
+use Rattle.algebra.specs.Grid.{Kept}
+use Rattle.algebra.specs.Held.{held, Roomy}
 use Rattle.algebra.specs.Reduced.{Solved}
 use Rattle.coloring.specs.Encoding.{over}
 use Rattle.graphs.specs.Graph.{joined}

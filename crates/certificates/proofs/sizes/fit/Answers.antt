@@ -1,4 +1,3 @@
-use Rattle.std.proofs.Common.{arith}
 use Rattle.certificates.proofs.Fitting.{too_high, too_large, small_table, small_output, enough}
 use Rattle.certificates.proofs.sizes.fit.Goals as goal
 

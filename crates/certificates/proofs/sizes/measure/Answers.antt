@@ -1,4 +1,4 @@
-use Rattle.std.proofs.Common.{◌≡◌, ◌≤◌, refl, arith}
+use Rattle.std.proofs.Common.{◌≤◌, refl, arith}
 use Rattle.graphs.specs.Graph.{joined}
 use Rattle.certificates.proofs.Sizing.{untabled, fits, capped, many_rows, many_products, measured, excess_at, measured_at}
 use Rattle.certificates.proofs.sizes.measure.Goals as goal

@@ -1,4 +1,4 @@
-use Rattle.std.proofs.Common.{refl, arith}
+use Rattle.std.proofs.Common.{refl}
 use Rattle.plan.specs.Texts.{says, unsaid}
 use Rattle.certifying.specs.Script.{turned}
 use Rattle.certifying.proofs.Replying.{checked_turn, checked_holds, refused_turn, refused_holds, unchecked_fits, unchecked_holds, unchecked_unsaid}

@@ -1,4 +1,4 @@
-use Rattle.std.proofs.Common.{◌≡◌, ℕ, ◌+◌, ◌^◌, ◌<◌, Bool, cond, length, get_or, sym, refl, ap, ◌∙◌, subst, arith}
+use Rattle.std.proofs.Common.{◌≡◌, ℕ, ◌^◌, ◌<◌, Bool, cond, length, get_or, sym, refl, ap, ◌∙◌, subst, arith}
 use Rattle.layout.specs.Certificate.{bits}
 use Rattle.layout.proofs.Bytes.{bits_below, bits_more, shifted, byte_fits}
 use Rattle.layout.proofs.writing.map_byte.Goals as goal

@@ -1,4 +1,4 @@
-use Rattle.std.proofs.Common.{◌≡◌, ℕ, ◌+◌, ◌/◌, ◌<◌, ◌≤◌, ◌⊎◌, List, ◌++◌, length, get_or, sym, refl, ap, ◌∙◌, subst, inl, inr, arith, length-append}
+use Rattle.std.proofs.Common.{◌≡◌, ℕ, ◌+◌, ◌/◌, ◌++◌, length, get_or, refl, ap, ◌∙◌, arith, length-append}
 use Rattle.layout.specs.Certificate.{head_of, map_of, codes_of, bits, over}
 use Rattle.layout.proofs.Bytes.{ended_over, upto_ones, unhindered}
 use Rattle.layout.proofs.writing.write.Goals as goal

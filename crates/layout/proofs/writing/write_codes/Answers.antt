@@ -1,7 +1,7 @@
-use Rattle.std.proofs.Common.{◌≡◌, ℕ, ◌+◌, ◌<◌, ◌≤◌, List, ◌++◌, length, get_or, sym, refl, ap, ◌∙◌, subst, arith}
+use Rattle.std.proofs.Common.{◌≡◌, ℕ, ◌<◌, ◌++◌, length, get_or, sym, ap, ◌∙◌, subst, arith}
 use Rattle.std.proofs.lemmas.List.{get_or_default}
 use Rattle.layout.specs.Certificate.{upto, code_of}
-use Rattle.layout.specs.Written.{Wrote, Ended}
+use Rattle.layout.specs.Written.{Ended}
 use Rattle.layout.proofs.Bytes.{codes_none, codes_skip, codes_more, ended_as}
 use Rattle.layout.proofs.writing.write_codes.Goals as goal
 use Rattle.layout.proofs.writing.write_codes.Goals.{then-code-ne0, else-code-ne0}

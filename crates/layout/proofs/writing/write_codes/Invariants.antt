@@ -1,4 +1,4 @@
-use Rattle.std.proofs.Common.{◌≡◌, ℕ, ◌+◌, ◌≤◌, List, [], ◌∷◌, ◌++◌, length, get_or}
+use Rattle.std.proofs.Common.{◌≡◌, ℕ, ◌+◌, ◌≤◌, List, ◌++◌, length, get_or}
 use Rattle.layout.specs.Certificate.{upto, code_of}
 use Rattle.layout.specs.Written.{Wrote, Ended}
 use Rattle.layout.proofs.writing.write_codes.Given as goal

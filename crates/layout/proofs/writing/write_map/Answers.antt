@@ -1,4 +1,4 @@
-use Rattle.std.proofs.Common.{◌≡◌, ℕ, ◌+◌, ◌/◌, ◌<◌, List, [], ◌∷◌, ◌++◌, length, get_or, sym, refl, ap, ◌∙◌, subst, append-nil, arith}
+use Rattle.std.proofs.Common.{◌≡◌, ℕ, ◌+◌, ◌/◌, ◌<◌, List, [], ◌∷◌, ◌++◌, length, get_or, sym, subst, append-nil, arith}
 use Rattle.layout.specs.Certificate.{upto, bits}
 use Rattle.layout.specs.Written.{Wrote}
 use Rattle.layout.proofs.Bytes.{map_more}

@@ -1,7 +1,6 @@
-use Rattle.std.proofs.Common.{◌≡◌, ℕ, ◌-◌, ◌≤◌, length, take, sym, refl, ap, ◌∙◌, subst, arith}
+use Rattle.std.proofs.Common.{ℕ, ◌-◌, ◌≤◌, length, take, sym, refl, ap, subst, arith}
 use Rattle.coloring.specs.Encoding.{over}
 use Rattle.graphs.specs.Graph.{joined}
-use Rattle.polynomials.specs.Product.{products}
 use Rattle.certificates.specs.declared.sizes.Sizes.{Sizes}
 use Rattle.layout.specs.Length.{certificate_bytes}
 use Rattle.layout.specs.Written.{Stored}

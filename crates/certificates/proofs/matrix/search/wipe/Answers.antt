@@ -1,4 +1,4 @@
-use Rattle.std.proofs.Common.{◌≡◌, ℕ, ◌*◌, ◌≤◌, ◌++◌, length, drop, replicate, sym, refl, ap, ◌∙◌, subst, arith, rules}
+use Rattle.std.proofs.Common.{◌≡◌, ℕ, ◌*◌, ◌++◌, length, drop, replicate, ap, ◌∙◌, subst, arith, rules}
 use Rattle.algebra.specs.Grid.{Blank}
 use Rattle.algebra.specs.Held.{held, Roomy}
 use Rattle.certificates.proofs.Seeking.{blank_table}

@@ -2,7 +2,6 @@ use Rattle.std.proofs.Common.{◌≡◌, ℕ, ◌+◌, ◌*◌, sym, ap, ◌∙�
 use Rattle.algebra.specs.Held.{held}
 use Rattle.coloring.specs.Encoding.{over}
 use Rattle.polynomials.specs.Monomial.{count}
-use Rattle.polynomials.specs.Product.{products}
 use Rattle.certificates.specs.declared.sizes.Sizes.{Sizes}
 use Rattle.certificates.specs.Summing.{Totals}
 use Rattle.certificates.proofs.Grids.{held_self, kept_self}

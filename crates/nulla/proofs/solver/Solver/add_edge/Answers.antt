@@ -1,6 +1,5 @@
-use Rattle.std.proofs.Common.{◌≡◌, sym, refl, ◌∙◌}
+use Rattle.std.proofs.Common.{sym, refl, ◌∙◌}
 use Rattle.std.proofs.lemmas.Result.{err_from_is_err_and}
-use Rattle.nulla.specs.State.{state_of}
 use Rattle.nulla.proofs.Edges.{adding_refused, already, adding}
 use Rattle.nulla.proofs.solver.Solver.add_edge.Goals as goal
 

@@ -1,4 +1,4 @@
-use Rattle.std.proofs.Common.{◌≡◌, sym, refl, ◌∙◌, subst}
+use Rattle.std.proofs.Common.{refl}
 use Rattle.nulla.proofs.Edges.{opening_refused, opening}
 use Rattle.nulla.proofs.solver.Solver.open_vertex.Goals as goal
 
