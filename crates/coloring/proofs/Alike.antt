@@ -2,7 +2,7 @@
 use Rattle.std.proofs.Common.{◌≡◌, ℕ, zero, suc, Bool, List, [], ◌∷◌, ◌++◌, map, sym, refl, ap, ◌∙◌, subst}
 use Rattle.std.proofs.ByRecursion.{All-append, All-get_or, All-from_get_or}
 use Rattle.std.proofs.lemmas.List.{map-append}
-use Rattle.std.specs.List.{AllByRecursion as All}
+use Rattle.std.specs.List.{AllByRecursion}
 use Rattle.fields.specs.Field.{Ops}
 use Rattle.polynomials.specs.declared.term.Term.{Term}
 use Rattle.polynomials.specs.Image.{AllOne, exponents_of, SameOnes}
@@ -18,7 +18,7 @@ exponents e = map (λ t. t.exponents) e
 module _ {C : Type 0} (o : Ops C) where
   -- all coefficients of one equation are one
   abbrev Ones : List (Term C) → Type 0
-  Ones e = All (λ t. t.coeff ≡ o.one) e
+  Ones e = AllByRecursion (λ t. t.coeff ≡ o.one) e
 
   ones_append : (es fs : List (List (Term C))) → AllOne o es → AllOne o fs → AllOne o (es ++ fs)
   ones_append es fs h q k l = All-get_or Ones (es ++ fs) k [] l (All-append Ones es fs (All-from_get_or Ones es [] h) (All-from_get_or Ones fs [] q))

@@ -3,7 +3,7 @@ use Rattle.std.specs.Prelude.{◌≡◌, ℕ, zero, suc, ◌+◌, ◌-◌, ◌<�
 use Rattle.std.proofs.Common.{ap, ⊎_elim, arith, lit≤, length-append}
 use Rattle.std.proofs.ByRecursion.{All-append, All-get_or, All-map, All-weaker}
 use Rattle.std.proofs.lemmas.Bool.{cases_eq, cond_both, and_parts, ltb-true}
-use Rattle.std.specs.List.{AllByRecursion as All}
+use Rattle.std.specs.List.{AllByRecursion}
 use Rattle.fields.specs.Field.{Ops, Laws}
 use Rattle.coloring.specs.declared.pairs.Pair.{Pair}
 use Rattle.polynomials.specs.declared.term.Term.{Term}
@@ -45,13 +45,13 @@ pub record Within (f : ℕ → ℕ → Bool) (n : ℕ) (p : Pair) : Type 0 where
   pub there : f p.low p.high ≡ true
 
 module _ (f : ℕ → ℕ → Bool) where
-  pair_within : (n i j : ℕ) → j < n → All (Within f n) (pair f i j)
+  pair_within : (n i j : ℕ) → j < n → AllByRecursion (Within f n) (pair f i j)
   pair_within n i j h =
-      cond_both (nat_lt i j && f i j) (two i j ∷ []) [] (All (Within f n))
+      cond_both (nat_lt i j && f i j) (two i j ∷ []) [] (AllByRecursion (Within f n))
       (λ e. let w = and_parts (nat_lt i j) (f i j) e in (record { ordered = ltb-true i j w.0; small = h; there = w.1 }, tt))
       (λ e. tt)
 
-  pub pairs_within : (n : ℕ) → All (Within f n) (pairs f n)
+  pub pairs_within : (n : ℕ) → AllByRecursion (Within f n) (pairs f n)
   pairs_within n = all_upto (Within f n) (row f n) n (λ i a. all_upto (Within f n) (pair f i) n (λ j b. pair_within n i j b))
 
   pair_few : (i j : ℕ) → length (pair f i j) + (j - (i + 1)) ≤ suc j - (i + 1)
@@ -124,7 +124,7 @@ module _ {C : Type 0} (o : Ops C) (laws : Laws o) where
         apart = apart_by (edge o.one p) (λ x. slice_index x p.low) 2 (edge_key p a (omega arith));
       }
 
-  pub plain_short : (n : ℕ) (f : ℕ → ℕ → Bool) → n ≤ 24 → All (Short o n) (plain o.one n f)
+  pub plain_short : (n : ℕ) (f : ℕ → ℕ → Bool) → n ≤ 24 → AllByRecursion (Short o n) (plain o.one n f)
   plain_short n f h =
       All-append (Short o n) (upto (cubes o.one) n) (map (edge o.one) (pairs f n))
       (all_upto (Short o n) (cubes o.one) n (λ k l. (cube_short n k h l, tt)))

@@ -4,7 +4,7 @@ use Rattle.std.proofs.Common.{sym, ap, subst, ◌∙◌, ⊎_elim, arith, lit<}
 use Rattle.std.proofs.ByRecursion.{All-append, All-get_or, All-map, All-weaker, has_append_left, has_append_right}
 use Rattle.std.proofs.lemmas.List.{get_or-map, length-map}
 use Rattle.std.proofs.lemmas.Bool.{cases_eq}
-use Rattle.std.specs.List.{ContainsAt as Has, AllByRecursion as All}
+use Rattle.std.specs.List.{ContainsAt as Has, AllByRecursion}
 use Rattle.fields.specs.Field.{Ops, Laws}
 use Rattle.coloring.specs.declared.pairs.Pair.{Pair}
 use Rattle.polynomials.specs.declared.term.Term.{Term}
@@ -62,7 +62,7 @@ pair_has f n p w =
     let here = subst (λ (z : List Pair). Has z p) (sym (pair_there f p.low p.high h w.there)) (has_one p) in
     has_upto (row f n) n p.low p (omega arith) (has_upto (pair f p.low) n p.high p l here)
 
-pub plain_kept : {C : Type 0} (one : C) (n m : ℕ) (f h : ℕ → ℕ → Bool) → n ≤ m → More f h → All (Has (plain one m h)) (plain one n f)
+pub plain_kept : {C : Type 0} (one : C) (n m : ℕ) (f h : ℕ → ℕ → Bool) → n ≤ m → More f h → AllByRecursion (Has (plain one m h)) (plain one n f)
 plain_kept one n m f h l g =
     let wider : (p : Pair) → Within f n p → Within h m p = λ p w. record { ordered = w.ordered; small = let s = w.small in omega (arith, s); there = g p.low p.high w.there } in
     All-append (Has (plain one m h)) (upto (cubes one) n) (map (edge one) (pairs f n))
@@ -76,10 +76,10 @@ module _ {C : Type 0} (o : Ops C) where
   pub has_listed : (es : List (List (Term C))) (p : List (Term C)) → Has es p → Listed o es p
   has_listed es p h = (h.0, h.1, λ e. ap (λ z. coefficient o z e) (h.2 []))
 
-  pub all_listed : (ps es : List (List (Term C))) → All (Has es) ps → AllListed o ps es
+  pub all_listed : (ps es : List (List (Term C))) → AllByRecursion (Has es) ps → AllListed o ps es
   all_listed ps es h k l = has_listed es (slice_index_or ps k []) (All-get_or (Has es) ps k [] l h)
 
-  pub plain_vanishes : (laws : Laws o) (n : ℕ) (f : ℕ → ℕ → Bool) (c : ℕ → Color) → n ≤ 24 → Proper n f c → All (λ e. value o (λ i. root o (c i)) e ≡ zero_pair o) (plain o.one n f)
+  pub plain_vanishes : (laws : Laws o) (n : ℕ) (f : ℕ → ℕ → Bool) (c : ℕ → Color) → n ≤ 24 → Proper n f c → AllByRecursion (λ e. value o (λ i. root o (c i)) e ≡ zero_pair o) (plain o.one n f)
   plain_vanishes laws n f c h proper =
       let P : List (Term C) → Type 0 = λ e. value o (λ i. root o (c i)) e ≡ zero_pair o in
       All-append P (upto (cubes o.one) n) (map (edge o.one) (pairs f n))

@@ -3,7 +3,7 @@ use Rattle.std.specs.Prelude.{◌≡◌, ℕ, zero, suc, ◌+◌, ◌<◌, ◌�
 use Rattle.std.proofs.Common.{sym, ap, subst, ◌∙◌, ⊎_elim, append_assoc, append-nil, add-one, arith, length-append}
 use Rattle.std.proofs.ByRecursion.{All-append}
 use Rattle.std.proofs.lemmas.Bool.{cases_eq}
-use Rattle.std.specs.List.{AllByRecursion as All}
+use Rattle.std.specs.List.{AllByRecursion}
 use Rattle.coloring.specs.Pairs.{at, upto}
 
 not_below : {n : ℕ} → n < 0 → ⊥
@@ -41,7 +41,7 @@ module _ {A : Type 0} where
   length_none g n h = ap length (upto_none g n h)
 
   -- what holds of each element of each list holds of all
-  pub all_upto : (P : A → Type 0) (g : ℕ → List A) (n : ℕ) → ((k : ℕ) → k < n → All P (g k)) → All P (upto g n)
+  pub all_upto : (P : A → Type 0) (g : ℕ → List A) (n : ℕ) → ((k : ℕ) → k < n → AllByRecursion P (g k)) → AllByRecursion P (upto g n)
   all_upto P g zero h = tt
   all_upto P g (suc n) h = All-append P (upto g n) (g n) (all_upto P g n (λ k l. h k (omega arith))) (h n (omega arith))
 

@@ -1,7 +1,7 @@
 -- Lists of multiples and coefficients by product number; and the certificates of more equations in more variables.
 use Rattle.std.proofs.Common.{◌≡◌, ℕ, zero, suc, ◌+◌, ◌*◌, ◌/◌, ◌%◌, ◌<◌, ◌≤◌, Bool, true, false, cond, List, [], ◌∷◌, get_or, take, sym, refl, ap, ◌∙◌, arith}
 use lib.Arith.{digits_lt, digits_div, digits_mod}
-use Rattle.std.specs.List.{AllByRecursion as All}
+use Rattle.std.specs.List.{AllByRecursion}
 use Rattle.std.proofs.ByRecursion.{All-weaker}
 use Rattle.fields.specs.Field.{Ops, Laws}
 use Rattle.algebra.specs.Linear.{sum}
@@ -35,7 +35,7 @@ module _ {F : Type 0} (n d : ℕ) where
   all_numbered x (suc k) = numbered x k ∷ all_numbered x k
 
   module _ (eqs : List (List (Term F))) (few : n ≤ 24) where
-    numbered_allowed : (x : ℕ → F) (k : ℕ) → k ≤ products n d eqs → All (Allowed n d eqs) (all_numbered x k)
+    numbered_allowed : (x : ℕ → F) (k : ℕ) → k ≤ products n d eqs → AllByRecursion (Allowed n d eqs) (all_numbered x k)
     numbered_allowed x zero h = tt
     numbered_allowed x (suc k) h = (
       record {
@@ -101,7 +101,7 @@ module _ {F : Type 0} {o : Ops F} (laws : Laws o) where
       ∙ sum_add laws k (λ p. o.mul c (own p)) rest
       ∙ ap (λ (s : F). o.add s (sum o k rest)) (sum_mul laws k c own ∙ ap (o.mul c) (sum_unit laws k r g h))
 
-  coefficient_weights : (n d : ℕ) (eqs : List (List (Term F))) (ms : List (Multiple F)) (e : List ℕ) → n ≤ 24 → All (Allowed n d eqs) ms →
+  coefficient_weights : (n d : ℕ) (eqs : List (List (Term F))) (ms : List (Multiple F)) (e : List ℕ) → n ≤ 24 → AllByRecursion (Allowed n d eqs) ms →
       coefficient o (total o eqs ms) e ≡ sum o (products n d eqs) (λ p. o.mul (weights n d ms p) (coefficient o (product n d eqs p) e))
   unfolding weights
   coefficient_weights n d eqs [] e few a =
@@ -118,7 +118,7 @@ module _ {F : Type 0} {o : Ops F} (laws : Laws o) where
       ∙ sym (weights_step (products n d eqs) (place n d m) m.coeff (weights n d ms) g (place_below n d eqs few m a.0))
 
   -- a list of multiples is the combination by its weights
-  pub total_combination : (n d : ℕ) (eqs : List (List (Term F))) (ms : List (Multiple F)) → n ≤ 24 → All (Allowed n d eqs) ms →
+  pub total_combination : (n d : ℕ) (eqs : List (List (Term F))) (ms : List (Multiple F)) → n ≤ 24 → AllByRecursion (Allowed n d eqs) ms →
       Equal o (total o eqs ms) (combination o n d eqs (weights n d ms))
   total_combination n d eqs ms few a e =
       coefficient_weights n d eqs ms e few a ∙ sym (coefficient_combination laws n d eqs (weights n d ms) e)
@@ -184,11 +184,11 @@ module _ {F : Type 0} {o : Ops F} (laws : Laws o) where
     moved : (m : Multiple F) → Allowed n d eqs m → Multiple F
     moved m a = record { coeff = m.coeff; multiplier = m.multiplier; equation = (found m a).0 }
 
-    all_moved : (ms : List (Multiple F)) → All (Allowed n d eqs) ms → List (Multiple F)
+    all_moved : (ms : List (Multiple F)) → AllByRecursion (Allowed n d eqs) ms → List (Multiple F)
     all_moved [] a = []
     all_moved (m ∷ ms) a = moved m a.0 ∷ all_moved ms a.1
 
-    moved_allowed : (ms : List (Multiple F)) (a : All (Allowed n d eqs) ms) → All (Allowed n' d eqs') (all_moved ms a)
+    moved_allowed : (ms : List (Multiple F)) (a : AllByRecursion (Allowed n d eqs) ms) → AllByRecursion (Allowed n' d eqs') (all_moved ms a)
     unfolding all_moved moved
     moved_allowed [] a = tt
     moved_allowed (m ∷ ms) a =
@@ -196,7 +196,7 @@ module _ {F : Type 0} {o : Ops F} (laws : Laws o) where
         record { monomial = monomial_wider n n' d m.multiplier wider a.0.monomial; listed = (found m a.0).1 } in
         (first, moved_allowed ms a.1)
 
-    moved_equal : (ms : List (Multiple F)) (a : All (Allowed n d eqs) ms) → Equal o (total o eqs' (all_moved ms a)) (total o eqs ms)
+    moved_equal : (ms : List (Multiple F)) (a : AllByRecursion (Allowed n d eqs) ms) → Equal o (total o eqs' (all_moved ms a)) (total o eqs ms)
     unfolding all_moved moved
     moved_equal [] a e = refl
     moved_equal (m ∷ ms) a e =

@@ -1,6 +1,6 @@
 -- Entries over the bits and over a field.
 use Rattle.std.proofs.Common.{◌≡◌, ℕ, zero, suc, ◌+◌, ◌*◌, ◌/◌, ◌%◌, Bool, true, false, cond, ◌&&◌, eqb, List, [], ◌∷◌, map, length, get_or, sym, refl, ap, ◌∙◌, arith}
-use Rattle.std.specs.List.{AllByRecursion as All}
+use Rattle.std.specs.List.{AllByRecursion}
 use Rattle.std.proofs.lemmas.List.{length-map}
 use Rattle.fields.specs.Field.{Ops, Laws}
 use Rattle.fields.specs.Bools.{xor}
@@ -23,7 +23,7 @@ with_coeff : {F : Type 0} {c k : F} (e : List ℕ) → c ≡ k →
 with_coeff e h i = record { coeff = h i; exponents = e }
 
 module _ {F : Type 0} (o : Ops F) where
-  ones_back : (p : List (Term F)) → All (λ t. t.coeff ≡ o.one) p → ones o (map (λ t. t.exponents) p) ≡ p
+  ones_back : (p : List (Term F)) → AllByRecursion (λ t. t.coeff ≡ o.one) p → ones o (map (λ t. t.exponents) p) ≡ p
   ones_back [] h = refl
   ones_back (t ∷ p) h =
       ap (λ (u : Term F). u ∷ ones o (map (λ t. t.exponents) p)) (with_coeff t.exponents (sym h.0))

@@ -1,6 +1,6 @@
 -- Values at a point: of sums, multiples and products, of equal polynomials, and of the polynomial one.
 use Rattle.std.proofs.Common.{◌≡◌, ℕ, zero, suc, ◌<◌, Bool, cond, List, [], ◌∷◌, ◌++◌, length, get_or, set, replicate, sym, refl, ap, ◌∙◌, inl, inr, arith}
-use Rattle.std.specs.List.{AllByRecursion as All}
+use Rattle.std.specs.List.{AllByRecursion}
 use Rattle.fields.specs.Field.{Ops, Laws}
 use Rattle.algebra.proofs.Sums.{mul-zero}
 use Rattle.polynomials.specs.declared.term.Term.{Term}
@@ -129,7 +129,7 @@ module _ {F : Type 0} {o : Ops F} (laws : Laws o) where
       ∙ pairs_mul_zero laws (constant o m.coeff)
 
   pub value_total : (x : ℕ → Pair F) (n d : ℕ) (eqs : List (List (Term F))) (ms : List (Multiple F)) → Solves o x eqs →
-      All (Allowed n d eqs) ms → value o x (total o eqs ms) ≡ zero_pair o
+      AllByRecursion (Allowed n d eqs) ms → value o x (total o eqs ms) ≡ zero_pair o
   value_total x n d eqs [] s a = refl
   value_total x n d eqs (m ∷ ms) s a =
       value_append x (multiple o eqs m) (total o eqs ms)

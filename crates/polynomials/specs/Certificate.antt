@@ -2,7 +2,7 @@
 -- times a listed equation, that add up to the polynomial one. No point can be a solution of all the equations then.
 -- Assumes nothing.
 use Rattle.std.specs.Prelude.{ℕ, ◌<◌, List, [], ◌∷◌, ◌++◌, length, slice_index_or}
-use Rattle.std.specs.List.{AllByRecursion as All}
+use Rattle.std.specs.List.{AllByRecursion}
 use Rattle.fields.specs.Field.{Ops}
 use Rattle.polynomials.specs.declared.term.Term.{Term}
 use Rattle.polynomials.specs.Polynomial.{Equal, IsOne, scaled, times}
@@ -31,7 +31,7 @@ module _ {F : Type 0} (o : Ops F) where
 
   -- ms is a certificate of degree d
   pub record Certificate (n d : ℕ) (equations : List (List (Term F))) (ms : List (Multiple F)) : Type 0 where
-    pub allowed : All (Allowed n d equations) ms
+    pub allowed : AllByRecursion (Allowed n d equations) ms
     pub sums : IsOne o (total equations ms)
 
   -- there is a certificate of degree d

@@ -1,7 +1,7 @@
 -- Bits in any field in which one plus one is zero: the bit that is set stands for one, the other for zero.
 -- Equations whose coefficients are all one can be read over bits and over the field. Assumes nothing.
 use Rattle.std.specs.Prelude.{◌≡◌, ℕ, ◌<◌, cond, List, [], map, length, slice_index_or}
-use Rattle.std.specs.List.{AllByRecursion as All}
+use Rattle.std.specs.List.{AllByRecursion}
 use Rattle.fields.specs.Field.{Ops}
 use Rattle.fields.specs.declared.bit.Bit.{Bit}
 use Rattle.polynomials.specs.declared.term.Term.{Term}
@@ -12,7 +12,7 @@ image o b = cond b.set o.one o.zero
 
 -- all coefficients are one
 abbrev pub AllOne : {F : Type 0} → Ops F → List (List (Term F)) → Type 0
-AllOne o equations = (k : ℕ) → k < length equations → All (λ t. t.coeff ≡ o.one) (slice_index_or equations k [])
+AllOne o equations = (k : ℕ) → k < length equations → AllByRecursion (λ t. t.coeff ≡ o.one) (slice_index_or equations k [])
 
 -- the exponents of each term of each equation
 abbrev pub exponents_of : {F : Type 0} → List (List (Term F)) → List (List (List ℕ))

@@ -2,7 +2,7 @@
 -- The order of the monomials in n variables is that of the crate `monomials`; zeros stand for the other variables.
 -- Assumes nothing.
 use Rattle.std.specs.Prelude.{◌≡◌, ℕ, ◌+◌, ◌-◌, ◌<◌, ◌≤◌, List, [], ◌++◌, length, take, replicate, slice_index, slice_index_or}
-use Rattle.std.specs.List.{AllByRecursion as All}
+use Rattle.std.specs.List.{AllByRecursion}
 use Rattle.monomials.specs.Choose.{choose}
 use Rattle.monomials.specs.Order.{degree, at_most, rank_of}
 use Rattle.polynomials.specs.declared.term.Term.{Term}
@@ -15,7 +15,7 @@ pub record Monomial (n d : ℕ) (m : List ℕ) : Type 0 where
 
 -- each term of p has such a monomial
 abbrev pub Within : {F : Type 0} → ℕ → ℕ → List (Term F) → Type 0
-Within n d p = All (λ t. Monomial n d t.exponents) p
+Within n d p = AllByRecursion (λ t. Monomial n d t.exponents) p
 
 -- the equations are in the first n variables, and of degree at most three
 pub record Formed {F : Type 0} (n : ℕ) (equations : List (List (Term F))) : Type 0 where

@@ -1,7 +1,7 @@
 -- What is proved of polynomials, certificates and products, over any field in which one plus one is zero.
 -- Each statement stands on the contract of a public function of `src/theorems.rt`. Assumes nothing.
 use Rattle.std.specs.Prelude.{◌≡◌, ℕ, ◌+◌, ◌<◌, ◌≤◌, List, length}
-use Rattle.std.specs.List.{AllByRecursion as All}
+use Rattle.std.specs.List.{AllByRecursion}
 use Rattle.fields.specs.Field.{Ops}
 use Rattle.algebra.specs.Linear.{sum, Represents, ColumnComb, Dependent}
 use Rattle.fields.specs.Bit.{bit_ops}
@@ -57,17 +57,17 @@ module _ {F : Type 0} (o : Ops F) where
     pub equal : (n d : ℕ) (p q : List (Term F)) → n ≤ 24 → Within n d p → Within n d q →
         (Equal o p q → Agree n d p q) × (Agree n d p q → Equal o p q)
     pub ranked : (n d p : ℕ) (equations : List (List (Term F))) → Formed n equations → p < products n d equations →
-        All (λ t. Ranked n (d + 3) t.exponents) (product n d equations p)
+        AllByRecursion (λ t. Ranked n (d + 3) t.exponents) (product n d equations p)
     pub combinations : (n d : ℕ) (equations : List (List (Term F))) (x : ℕ → F) → Formed n equations →
         Within n (d + 3) (combination o n d equations x)
     pub one : (n d : ℕ) → Within n d (unity o)
 
   -- a coefficient for each product number says what a list of multiples does
   pub record ProductsSuffice : Type 0 where
-    pub sums : (n d : ℕ) (equations : List (List (Term F))) (ms : List (Multiple F)) → n ≤ 24 → All (Allowed n d equations) ms →
+    pub sums : (n d : ℕ) (equations : List (List (Term F))) (ms : List (Multiple F)) → n ≤ 24 → AllByRecursion (Allowed n d equations) ms →
         (x : ℕ → F) × Equal o (total o equations ms) (combination o n d equations x)
     pub lists : (n d : ℕ) (equations : List (List (Term F))) (x : ℕ → F) → n ≤ 24 →
-        (ms : List (Multiple F)) × All (Allowed n d equations) ms × Equal o (total o equations ms) (combination o n d equations x)
+        (ms : List (Multiple F)) × AllByRecursion (Allowed n d equations) ms × Equal o (total o equations ms) (combination o n d equations x)
     pub forth : (n d : ℕ) (equations : List (List (Term F))) → n ≤ 24 →
         Certified o n d equations → (x : ℕ → F) × IsOne o (combination o n d equations x)
     pub back : (n d : ℕ) (equations : List (List (Term F))) (x : ℕ → F) → n ≤ 24 →
