@@ -24,9 +24,6 @@ const ELEMENTS: usize = 4_194_304;
 
 const BYTES: usize = 65_536;
 
-// No certificate on a line of a script is longer: two digits a byte.
-const GIVEN: usize = LONGEST_SCRIPT / 2;
-
 // Whether the encoding with triangles is asked for.
 fn wants_triangles(rt: &HostRuntime) -> anyhow::Result<bool> {
     let mut arguments = env::args(rt)?;
@@ -79,12 +76,10 @@ fn answer_with<P: Encoding<Coeff = Bit> + Drop, Q: Encoding<Coeff = Four> + Drop
 ) -> anyhow::Result<()> {
     let table = vec![in rt.alloc(); Bit::zero(); ELEMENTS]?;
     let certificate = vec![in rt.alloc(); 0u8; BYTES]?;
-    let given = vec![in rt.alloc(); 0u8; GIVEN]?;
-    let mut bits = Side::new(over_bits, table, certificate, given);
+    let mut bits = Side::new(over_bits, table, certificate);
     let table = vec![in rt.alloc(); Four::zero(); ELEMENTS]?;
     let certificate = vec![in rt.alloc(); 0u8; BYTES]?;
-    let given = vec![in rt.alloc(); 0u8; GIVEN]?;
-    let mut four = Side::new(over_four, table, certificate, given);
+    let mut four = Side::new(over_four, table, certificate);
     answer_script(rt, script, &mut bits, &mut four)
 }
 

@@ -1,8 +1,8 @@
 -- One byte more at the end is two digits more at the end. Assumes nothing.
-use Rattle.std.proofs.Common.{◌≡◌, ℕ, ◌+◌, ◌*◌, ◌/◌, ◌%◌, ◌<◌, List, [], ◌∷◌, ◌++◌, length, get_or, take, refl, ap, ◌∙◌, append_assoc, arith}
+use Rattle.std.proofs.Common.{◌≡◌, ℕ, ◌+◌, ◌/◌, ◌%◌, ◌<◌, cond, ltb, List, [], ◌∷◌, ◌++◌, length, get_or, take, sym, refl, ap, ◌∙◌, append_assoc, arith}
 use Rattle.std.proofs.lemmas.Bool.Decides.{nat_tests}
 use Rattle.std.proofs.lemmas.List.{take_more}
-use Rattle.certifying.specs.Hexadecimal.{digit_of, hex_of, value_of, byte_at}
+use Rattle.certifying.specs.Hexadecimal.{digit_of, hex_of}
 
 one_more : (bytes : List ℕ) (byte : ℕ) → hex_of (bytes ++ (byte ∷ [])) ≡ hex_of bytes ++ (digit_of (byte / 16) ∷ digit_of (byte % 16) ∷ [])
 one_more [] byte = refl
@@ -31,7 +31,3 @@ grown bytes i h l before between after within b hi lo first second =
     let all : after ≡ before ++ (h ∷ l ∷ []) = second ∙ ap (λ t. t ++ (l ∷ [])) first ∙ append_assoc before (h ∷ []) (l ∷ []) in
     let n = next bytes i within in
     cc
-
--- the byte of two digits, each by what it counts
-pub joined : (digits : List ℕ) (k high low : ℕ) → high ≡ value_of (get_or digits (2 * k) 0) → low ≡ value_of (get_or digits (2 * k + 1) 0) → 16 * high + low ≡ byte_at digits (2 * k)
-joined digits k high low h l = rw (h, l) refl

@@ -1,6 +1,3 @@
 pub mod Digits
 pub mod Saying
 pub mod Lending
-pub mod Asking
-pub mod Replying
-pub mod Reading

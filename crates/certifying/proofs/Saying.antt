@@ -1,9 +1,7 @@
 -- The text for a line, put together. Assumes nothing.
 use Rattle.std.proofs.Common.{◌≡◌, ℕ, true, false, List, [], ◌∷◌, ◌++◌, codes, sym, ◌∙◌, subst, arith}
 use Rattle.nulla.specs.declared.reply.Reply.{Reply}
-use Rattle.nulla.specs.Requests.{check_certificate}
-use Rattle.certifying.specs.Script.{Asks}
-use Rattle.certifying.specs.Text.{words_of, certificate_of, checked_of, Answer, agree, differ, Text, check}
+use Rattle.certifying.specs.Text.{words_of, certificate_of, Answer, agree, differ}
 
 pub unlike : false ≡ true → ⊥
 unlike e = let z : ◌≡◌ {A = ℕ} 0 1 = cc in omega arith
@@ -24,10 +22,6 @@ in_difference r q bits four w v text a b other is =
     let whole : text ≡ codes "differ: " ++ (words_of r ++ (codes ", " ++ (words_of q ++ (10 ∷ [])))) = rw (a, b) at is in
     subst (Answer r q bits four) (sym whole) (differ (λ e. unlike (other (a ∙ e ∙ sym b))))
 
--- a check's text
-pub in_check : (line : List ℕ) (r q : Reply) (bits four text : List ℕ) → (bytes : List ℕ) → Asks line (check_certificate bytes) → text ≡ checked_of r q → Text line r q bits four text
-in_check line r q bits four text bytes asks is = subst (Text line r q bits four) (sym is) (check asks)
-
 -- the same memory by another name
-pub in_memory : (line : List ℕ) (r q : Reply) (bits bits' four four' text : List ℕ) → bits ≡ bits' → four ≡ four' → Text line r q bits four text → Text line r q bits' four' text
-in_memory line r q bits bits' four four' text b f h = rw (← b, ← f) h
+pub in_memory : (r q : Reply) (bits bits' four four' text : List ℕ) → bits ≡ bits' → four ≡ four' → Answer r q bits four text → Answer r q bits' four' text
+in_memory r q bits bits' four four' text b f h = rw (← b, ← f) h

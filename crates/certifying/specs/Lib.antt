@@ -1,4 +1,4 @@
 pub mod Hexadecimal
-pub mod Script
+pub mod Turns
 pub mod Text
 pub mod Sides

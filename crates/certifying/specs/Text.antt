@@ -5,9 +5,7 @@ use Rattle.certificates.specs.Refusals.{number_of}
 use Rattle.nulla.specs.declared.reply.Reply.{Reply}
 use Rattle.nulla.specs.declared.reply.Reply.TheVariants.{Opened, Done, Infeasible, Open, Passed, Refused}
 use Rattle.plan.specs.Rendering.{line_of}
-use Rattle.nulla.specs.Requests.{check_certificate}
 use Rattle.certifying.specs.Hexadecimal.{hex_of}
-use Rattle.certifying.specs.Script.{Asks, Unchecked}
 
 abbrev pub words_of : Reply → List ℕ
 words_of (Opened vertex) = codes "batch " ++ decimal vertex
@@ -15,7 +13,7 @@ words_of Done = codes "ok"
 words_of (Infeasible degree length) = codes "few " ++ decimal degree
 words_of (Open degree) = codes "open " ++ decimal degree
 words_of Passed = codes "passes"
-words_of (Refused ground) = codes "no " ++ decimal (number_of ground)
+words_of (Refused refusal) = codes "no " ++ decimal (number_of refusal)
 
 -- A line of answer is the words and the line's end.
 abbrev pub ReadAsInPlans : Type 0
@@ -29,19 +27,10 @@ certificate_of label (Opened vertex) memory = []
 certificate_of label Done memory = []
 certificate_of label (Open degree) memory = []
 certificate_of label Passed memory = []
-certificate_of label (Refused ground) memory = []
+certificate_of label (Refused refusal) memory = []
 
--- The text for a line that asks for no check, from the replies of both solvers and what is in their memory for certificates: the words of
--- both, and the certificates; or both in words, where these differ.
+-- The text for a line, from the replies of both solvers and what is in their memory for certificates: the words of both, and the
+-- certificates; or both in words, where these differ.
 pub data Answer (r q : Reply) (bits four : List ℕ) : List ℕ → Type 0 where
   agree : words_of r ≡ words_of q → Answer r q bits four (words_of r ++ (codes "\n" ++ (certificate_of (codes "bits") r bits ++ certificate_of (codes "four") q four)))
   differ : (words_of r ≢ words_of q) → Answer r q bits four (codes "differ: " ++ (words_of r ++ (codes ", " ++ (words_of q ++ (10 ∷ [])))))
-
--- The text for a check: the words of each reply on a line of its own, under the name of the solver.
-abbrev pub checked_of : Reply → Reply → List ℕ
-checked_of r q = codes "bits " ++ (words_of r ++ (codes "\nfour " ++ (words_of q ++ (10 ∷ []))))
-
--- The text for a line.
-pub data Text (line : List ℕ) (r q : Reply) (bits four : List ℕ) : List ℕ → Type 0 where
-  check : {bytes : List ℕ} → Asks line (check_certificate bytes) → Text line r q bits four (checked_of r q)
-  other : {text : List ℕ} → Unchecked line → Answer r q bits four text → Text line r q bits four text

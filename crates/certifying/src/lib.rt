@@ -2,6 +2,5 @@
 #![tactic(auto)]
 
 pub mod hexadecimal;
-pub mod script;
 pub mod side;
 pub mod text;

@@ -2,10 +2,9 @@
 // proper coloring exists. Answers that differ stand on one line, so that a reader sees both.
 ghost use Rattle.std.specs.Prelude.{◌≡◌, [], ◌∷◌, ◌++◌, take, IfOk, string_bytes, codes, Decides};
 ghost use Rattle.certifying.specs.Hexadecimal.{hex_of};
-ghost use Rattle.certifying.specs.Text.{words_of, certificate_of, checked_of, Answer, Text, ReadAsInPlans};
+ghost use Rattle.certifying.specs.Text.{words_of, certificate_of, Answer, ReadAsInPlans};
 
 use crate::hexadecimal::hexadecimal;
-use crate::script::handed;
 use nulla::Reply;
 use std::alloc::{AllocError, Global};
 
@@ -107,7 +106,7 @@ fn differing(heap: Global, bits: &str, four: &str) -> Result<String, AllocError>
     format!(in heap; "differ: {bits}, {four}\n")
 }
 
-/// The text for a line that asks for no check, from what both solvers reply to it and from their memory for certificates.
+/// The text for a line, from what both solvers reply to it and from their memory for certificates.
 pub fn answer(
     heap: Global,
     bits: Reply,
@@ -123,39 +122,6 @@ pub fn answer(
         return agreed(heap, of_bits.as_str(), bits, four, first, second);
     }
     differing(heap, of_bits.as_str(), of_four.as_str())
-}
-
-// The words of each reply on a line of its own.
-fn labelled_both(heap: Global, bits: &str, four: &str) -> Result<String, AllocError>
-    ensures { IfOk result (λ t. string_bytes t ≡ codes "bits " ++ (bits.now ++ (codes "\nfour " ++ (four.now ++ (10 ∷ []))))) }
-{
-    format!(in heap; "bits {bits}\nfour {four}\n")
-}
-
-/// The text for a check, from what both solvers reply to it.
-pub fn checked(heap: Global, bits: Reply, four: Reply) -> Result<String, AllocError>
-    ensures { IfOk result (λ t. string_bytes t ≡ checked_of bits four) }
-{
-    let first = words(heap, bits)?;
-    let second = words(heap, four)?;
-    labelled_both(heap, first.as_str(), second.as_str())
-}
-
-/// The text for a line, from what both solvers reply to it and from their memory for certificates.
-pub fn text_for(
-    heap: Global,
-    line: &[u8],
-    bits: Reply,
-    four: Reply,
-    first: &[u8],
-    second: &[u8],
-) -> Result<String, AllocError>
-    ensures { IfOk result (λ t. Text line.now bits four first.now second.now (string_bytes t)) }
-{
-    match handed(line) {
-        Some(_) => checked(heap, bits, four),
-        None => answer(heap, bits, four, first, second),
-    }
 }
 
 /// The words are those of the answers to a plan.

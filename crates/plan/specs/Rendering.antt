@@ -14,7 +14,7 @@ line_of Done = codes "ok" ++ (10 ∷ [])
 line_of (Infeasible degree length) = numbered (codes "few ") degree
 line_of (Open degree) = numbered (codes "open ") degree
 line_of Passed = codes "passes" ++ (10 ∷ [])
-line_of (Refused ground) = numbered (codes "no ") (number_of ground)
+line_of (Refused refusal) = numbered (codes "no ") (number_of refusal)
 
 -- The number that an answer line shows has two digits at most.
 abbrev pub Short : Reply → Type 0
@@ -23,7 +23,7 @@ Short Done = Unit {0}
 Short (Infeasible degree length) = degree < 100
 Short (Open degree) = degree < 100
 Short Passed = Unit {0}
-Short (Refused ground) = number_of ground < 100
+Short (Refused refusal) = number_of refusal < 100
 
 -- The text with these bytes in the place of those from `at` on.
 abbrev pub overwritten : List ℕ → ℕ → List ℕ → List ℕ

@@ -7,8 +7,8 @@ use Rattle.nulla.specs.declared.reply.Reply.{Reply}
 use Rattle.nulla.specs.State.{State}
 use Rattle.nulla.specs.Steps.{Lists}
 use Rattle.plan.specs.Texts.{Turn}
-use Rattle.certifying.specs.Script.{Asks, Replied}
-use Rattle.certifying.proofs.Replying.{replied_turn}
+use Rattle.calling.specs.Script.{Asks, Replied}
+use Rattle.calling.proofs.Replying.{replied_turn}
 
 -- the line from one place to another, on a solver whose encoding is the one that it had
 pub line_turn : {F E : Type 0} {o : Ops F} (lists : E → Lists F) (script : List ℕ) (at end : ℕ) {e e' : E} {most : ℕ} {s t : State} {m k : Memory F} {r : Reply} → length script ≤ 2 * most → e' ≡ e → Replied o (lists e') (take (end - at) (drop at script)) most s m r t k → Turn Asks o (lists e) (take (end - at) (drop at script)) s m r t k

@@ -10,7 +10,7 @@ use Rattle.nulla.specs.State.{fresh}
 use Rattle.nulla.specs.Steps.{Lists}
 use Rattle.plan.specs.Lines.{lines_of}
 use Rattle.plan.specs.Texts.{Filled}
-use Rattle.certifying.specs.Script.{Asks}
+use Rattle.calling.specs.Script.{Asks}
 use Rattle.scripts.specs.Codes.{Read, codes_of}
 
 -- The bytes that a caller lends: the codes of a table's elements, memory for certificates, and memory for the text.

@@ -4,9 +4,9 @@ ghost use Rattle.certificates.specs.Outcome.{memory};
 ghost use Rattle.nulla.specs.State.{state_of};
 ghost use Rattle.plan.specs.Lines.{lines_of};
 ghost use Rattle.plan.specs.Texts.{Filled};
-ghost use Rattle.certifying.specs.Script.{Asks};
+ghost use Rattle.calling.specs.Script.{Asks};
 
-use certifying::script::reply_to;
+use calling::script::reply_to;
 use coloring::encoding::Encoding;
 use nulla::Solver;
 use plan::answers::write_reply;

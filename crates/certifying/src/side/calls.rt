@@ -1,30 +1,23 @@
 // The calls on a side, and a line answered on two sides.
 ghost use Rattle.std.specs.Prelude.{IfOk, string_bytes};
-ghost use Rattle.certifying.specs.Text.{Text};
+ghost use Rattle.certifying.specs.Text.{Answer};
 ghost use Rattle.certifying.specs.Sides.{New, Turned, Both};
 
-use crate::script::reply_to;
-use crate::side::Side;
-use crate::text::text_for;
+use crate::side::{Side, reply_to};
+use crate::text::answer;
 use coloring::encoding::Encoding;
 use nulla::{Reply, Solver};
 use std::alloc::{AllocError, Global};
 
 impl<E: Encoding> Side<E, E::Coeff> {
     /// A new solver that is lent this memory.
-    pub fn new(
-        encoding: E,
-        table: Vec<E::Coeff>,
-        certificate: Vec<u8>,
-        given: Vec<u8>,
-    ) -> Side<E, E::Coeff>
-        ensures { New encoding table.items certificate.items given.items result }
+    pub fn new(encoding: E, table: Vec<E::Coeff>, certificate: Vec<u8>) -> Side<E, E::Coeff>
+        ensures { New encoding table.items certificate.items result }
     {
         Side {
             solver: Solver::new(encoding),
             table,
             certificate,
-            given,
         }
     }
 
@@ -35,7 +28,6 @@ impl<E: Encoding> Side<E, E::Coeff> {
         reply_to(
             &mut self.solver,
             line,
-            &mut self.given,
             &mut self.table,
             &mut self.certificate,
         )
@@ -49,9 +41,9 @@ pub fn answer_line<P: Encoding, Q: Encoding>(
     bits: &mut Side<P, P::Coeff>,
     four: &mut Side<Q, Q::Coeff>,
 ) -> Result<String, AllocError>
-    ensures { Both (λ a. Turned P.Coeff.ops P.lists line.now bits.old a bits.new) (λ b. Turned Q.Coeff.ops Q.lists line.now four.old b four.new) (λ a b. IfOk result (λ t. Text line.now a b bits.new.certificate.items four.new.certificate.items (string_bytes t))) }
+    ensures { Both (λ a. Turned P.Coeff.ops P.lists line.now bits.old a bits.new) (λ b. Turned Q.Coeff.ops Q.lists line.now four.old b four.new) (λ a b. IfOk result (λ t. Answer a b bits.new.certificate.items four.new.certificate.items (string_bytes t))) }
 {
     let one = bits.reply(line);
     let other = four.reply(line);
-    text_for(heap, line, one, other, &bits.certificate, &four.certificate)
+    answer(heap, one, other, &bits.certificate, &four.certificate)
 }

@@ -3,7 +3,7 @@ use Rattle.certificates.specs.Outcome.{memory}
 use Rattle.nulla.specs.State.{state_of}
 use Rattle.plan.proofs.Splits.{place_within}
 use Rattle.plan.proofs.Turns.{turn_short, progress_none, progress_room, progress_more, progress_all}
-use Rattle.certifying.specs.Script.{Asks}
+use Rattle.calling.specs.Script.{Asks}
 use Rattle.scripts.proofs.Turning.{line_turn}
 use Rattle.scripts.proofs.answers.answer_lines.Goals as goal
 

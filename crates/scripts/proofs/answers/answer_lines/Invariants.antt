@@ -2,7 +2,7 @@ use Rattle.std.proofs.Common.{◌≡◌, ◌+◌, ◌-◌, ◌≤◌, length}
 use Rattle.certificates.specs.Outcome.{memory}
 use Rattle.nulla.specs.State.{state_of}
 use Rattle.plan.proofs.Turns.{Progress}
-use Rattle.certifying.specs.Script.{Asks}
+use Rattle.calling.specs.Script.{Asks}
 use Rattle.scripts.proofs.answers.answer_lines.Given as goal
 
 abbrev pub invariant-loop-at : goal.invariant-loop-at

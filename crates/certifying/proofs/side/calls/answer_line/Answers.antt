@@ -10,5 +10,5 @@ returns g c =
       other = c.reply-other.result;
       turns_one = c.reply-one.ensures;
       turns_other = c.reply-other.ensures;
-      said = IfOk-weaker c.text_for.result _ _ (λ t. in_memory c.args.line.now c.reply-one.result c.reply-other.result _ _ _ _ (string_bytes t) c.deref.ensures.value c.deref-2.ensures.value) c.text_for.ensures;
+      said = IfOk-weaker c.answer.result _ _ (λ t. in_memory c.reply-one.result c.reply-other.result _ _ _ _ (string_bytes t) c.deref.ensures.value c.deref-2.ensures.value) c.answer.ensures;
     }

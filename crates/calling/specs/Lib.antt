@@ -1,0 +1,4 @@
+pub mod Digits
+pub mod Script
+pub mod Text
+pub mod Sides

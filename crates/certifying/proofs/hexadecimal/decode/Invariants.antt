@@ -1,6 +1,0 @@
-use Rattle.std.proofs.Common.{◌≡◌, ℕ, ◌*◌, ◌<◌, get_or}
-use Rattle.certifying.specs.Hexadecimal.{byte_at}
-use Rattle.certifying.proofs.hexadecimal.decode.Given as goal
-
-abbrev pub invariant-loop-k : goal.invariant-loop-k
-invariant-loop-k l = (j : ℕ) → j < l.k → get_or l.bytes j 0 ≡ byte_at l.digits (2 * j)
