@@ -6,12 +6,11 @@ set -eu
 seconds=${1:-120}
 seed=${SEED:-1}
 cd "$(dirname "$0")/.."
-kit=$(dirname "$(dirname "$(rt doc)")")
 out=$PWD/target/compare
 mkdir -p "$out"
 
-# isolate OBJECT LIBRARY FUNCTION...: one object made from the library and what it needs of the kit, with no names to be
-# seen from outside but the functions. So libraries that share parts can be linked into one program.
+# isolate OBJECT LIBRARY FUNCTION...: one object made from the library, with no names to be seen from outside but the
+# functions. So libraries that share parts can be linked into one program.
 isolate() {
     object=$1 library=$2
     shift 2
@@ -20,12 +19,15 @@ isolate() {
         wanted="$wanted -u $function"
         kept="$kept --keep-global-symbol=$function"
     done
-    ld -r --force-group-allocation $wanted -o "$object" --start-group "$library" "$kit/lib/librattle_c.a" --end-group
+    ld -r --force-group-allocation $wanted -o "$object" "$library"
     objcopy $kept "$object"
 }
 
-rt staticlib plan
-rt staticlib scripts
+(cd crates/plan_c && rt lib)
+(cd crates/scripts && rt lib)
+mkdir -p target/staticlib
+cp crates/plan_c/out/libplan_c.a target/staticlib/libplan.a
+cp crates/scripts/out/libscripts.a target/staticlib/libscripts.a
 isolate "$out/plan.o" target/staticlib/libplan.a tracks_plan
 isolate "$out/scripts.o" target/staticlib/libscripts.a nulla_script
 
