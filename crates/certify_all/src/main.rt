@@ -14,6 +14,7 @@ use fields::{Bit, Field, Four};
 use plan::lines::{LINE_END, find};
 use std::env;
 use std::io::{Read, Write};
+use std::process::ExitCode;
 
 const LONGEST_SCRIPT: usize = 65_536;
 
@@ -108,10 +109,12 @@ fn run(rt: &HostRuntime) -> anyhow::Result<()> {
     }
 }
 
-fn main(rt: HostRuntime) -> anyhow::Result<()> {
-    let outcome = run(&rt);
-    if let Err(error) = &outcome {
-        eprintln!(rt; "certify_all: {error}")?;
+fn main(rt: HostRuntime) -> ExitCode {
+    match run(&rt) {
+        Ok(()) => ExitCode::SUCCESS,
+        Err(error) => {
+            let _ = eprintln!(rt; "certify_all: {error}");
+            ExitCode::FAILURE
+        }
     }
-    outcome
 }
