@@ -5,3 +5,4 @@ mod elimination;
 pub mod theorems;
 
 pub use elimination::Grid;
+pub use fields::{Bit, Field, Four};

@@ -9,3 +9,4 @@ mod triangles;
 pub use encoding::Encoding;
 pub use encoding::plain::Plain;
 pub use encoding::triangles::Triangles;
+pub use graphs::{Edge, Graph};

@@ -14,6 +14,6 @@ pub enum Reply {
     Open { degree: u8 },
     /// The certificate adds up to one.
     Passed,
-    /// The call was refused, and changed nothing.
+    /// The call was refused. It changed nothing, but for the zeros that a check leaves in the table where the sum is not one.
     Refused(Refusal),
 }
