@@ -2,10 +2,15 @@
 use Rattle.std.proofs.Common.{◌≡◌, ℕ, ◌<◌, List, sym, ap, ◌∙◌, subst, inl, inr}
 use Rattle.std.proofs.lemmas.Bool.{cases_eq}
 use Rattle.fields.specs.Field.{Ops, Laws}
-use Rattle.algebra.specs.Grid.{cell, Added, Swapped, Scaled}
+use Rattle.algebra.specs.Grid.{cell, Swapped, Scaled}
 use Rattle.algebra.specs.Linear.{RowComb, Within, Equivalent}
 use Rattle.algebra.proofs.Sums.{add_back, one-mul}
 use Rattle.algebra.proofs.RowCombinations.{comb_same, comb_row, comb_add, comb_mul, within_self, within_trans}
+
+-- to each row but `row` a multiple of that row is added
+pub record AddedToOthers {F : Type 0} (o : Ops F) (rows cols row : ℕ) (k : ℕ → F) (m m' : ℕ → ℕ → F) : Type 0 where
+  pub own : (c : ℕ) → c < cols → m' row c ≡ m row c
+  pub others : (r c : ℕ) → r < rows → (r ≡ row → ⊥) → c < cols → m' r c ≡ o.add (m r c) (o.mul (k r) (m row c))
 
 module _ {F : Type 0} {o : Ops F} (laws : Laws o) (rows cols : ℕ) where
   pub equivalent_self : (m : ℕ → ℕ → F) → Equivalent o rows cols m m
@@ -18,31 +23,27 @@ module _ {F : Type 0} {o : Ops F} (laws : Laws o) (rows cols : ℕ) where
   kept_row : (m m' : ℕ → ℕ → F) (r s : ℕ) → s < rows → ((c : ℕ) → c < cols → m' r c ≡ m s c) → RowComb o rows cols m (m' r)
   kept_row m m' r s h e = comb_same laws rows cols m (m s) (m' r) e (comb_row laws rows cols m s h)
 
-  added_within : (xs ys : List F) (from to : ℕ) (k : F) → from < rows → to < rows → Added o cols from to k xs ys → Within o rows cols (cell o xs cols) (cell o ys cols)
-  added_within xs ys from to k hf ht p r h =
-      let m = cell o xs cols in
-      let m' = cell o ys cols in
-      let moved : RowComb o rows cols m (m' to) =
-      comb_same laws rows cols m (λ c. o.add (m to c) (o.mul k (m from c))) (m' to) p.there
-      (comb_add laws rows cols m (m to) (λ c. o.mul k (m from c)) (comb_row laws rows cols m to ht) (comb_mul laws rows cols m k (m from) (comb_row laws rows cols m from hf))) in
-      elim (cases_eq r to) [
-        | inl e ↦ subst (λ (s : ℕ). RowComb o rows cols m (m' s)) (sym e) moved
-        | inr n ↦ kept_row m m' r r h (λ c l. p.others r c n l)
+  added_within : (m m' : ℕ → ℕ → F) (row : ℕ) (k : ℕ → F) → row < rows → AddedToOthers o rows cols row k m m' → Within o rows cols m m'
+  added_within m m' row k hr p r h =
+      elim (cases_eq r row) [
+        | inl e ↦ subst (λ (s : ℕ). RowComb o rows cols m (m' s)) (sym e) (kept_row m m' row row hr p.own)
+        | inr n ↦ comb_same laws rows cols m (λ c. o.add (m r c) (o.mul (k r) (m row c))) (m' r) (λ c l. p.others r c h n l)
+            (comb_add laws rows cols m (m r) (λ c. o.mul (k r) (m row c)) (comb_row laws rows cols m r h) (comb_mul laws rows cols m (k r) (m row) (comb_row laws rows cols m row hr)))
       ]
 
-  pub added_back : (xs ys : List F) (from to : ℕ) (k : F) → (from ≡ to → ⊥) → Added o cols from to k xs ys → Added o cols from to k ys xs
-  added_back xs ys from to k n p = record {
-    there = λ c h.
-        sym (add_back laws (cell o xs cols to c) (o.mul k (cell o xs cols from c)))
-        ∙ ap (λ z. o.add z (o.mul k (cell o xs cols from c))) (sym (p.there c h))
-        ∙ ap (λ z. o.add (cell o ys cols to c) (o.mul k z)) (sym (p.others from c n h));
-    others = λ r c q h. sym (p.others r c q h);
+  added_back : (m m' : ℕ → ℕ → F) (row : ℕ) (k : ℕ → F) → AddedToOthers o rows cols row k m m' → AddedToOthers o rows cols row k m' m
+  added_back m m' row k p = record {
+    own = λ c l. sym (p.own c l);
+    others = λ r c h n l.
+        sym (add_back laws (m r c) (o.mul (k r) (m row c)))
+        ∙ ap (λ z. o.add z (o.mul (k r) (m row c))) (sym (p.others r c h n l))
+        ∙ ap (λ z. o.add (m' r c) (o.mul (k r) z)) (sym (p.own c l));
   }
 
-  pub added_equivalent : (xs ys : List F) (from to : ℕ) (k : F) → from < rows → to < rows → (from ≡ to → ⊥) → Added o cols from to k xs ys → Equivalent o rows cols (cell o xs cols) (cell o ys cols)
-  added_equivalent xs ys from to k hf ht n p = record {
-    forth = added_within xs ys from to k hf ht p;
-    back = added_within ys xs from to k hf ht (added_back xs ys from to k n p);
+  pub added_equivalent : (m m' : ℕ → ℕ → F) (row : ℕ) (k : ℕ → F) → row < rows → AddedToOthers o rows cols row k m m' → Equivalent o rows cols m m'
+  added_equivalent m m' row k hr p = record {
+    forth = added_within m m' row k hr p;
+    back = added_within m' m row k hr (added_back m m' row k p);
   }
 
   swapped_within : (xs ys : List F) (a b : ℕ) → a < rows → b < rows → Swapped o cols a b xs ys → Within o rows cols (cell o xs cols) (cell o ys cols)

@@ -1,11 +1,18 @@
 -- A turn of elimination, at one column.
-use Rattle.std.proofs.Common.{◌≡◌, ℕ, ◌+◌, ◌<◌, ◌≤◌, List, sym, ap, ◌∙◌, subst, inl, inr, arith, below_more}
+use Rattle.std.proofs.Common.{Option, Some, None, MatchOption, ◌≡◌, ℕ, ◌+◌, ◌<◌, ◌≤◌, List, sym, ap, ◌∙◌, subst, inl, inr, arith, below_more}
 use Rattle.std.proofs.lemmas.Bool.{cases_eq}
 use Rattle.fields.specs.Field.{Ops, Laws}
-use Rattle.algebra.specs.Grid.{cell, Swapped, Scaled}
+use Rattle.algebra.specs.Grid.{cell, Swapped, Scaled, AllZero, FirstNonzero}
 use Rattle.algebra.specs.Reduced.{Cleared, Pivoted, Reduced}
 use Rattle.algebra.proofs.Sums.{mul-zero}
 use Rattle.algebra.proofs.Steps.{swapped_equivalent, scaled_equivalent, equivalent_trans}
+
+-- a search through the rows finds the first that is not zero in the column
+pub first_nonzero : {F : Type 0} (o : Ops F) (xs : List F) (cols from rows col : ℕ) (r : Option ℕ)
+    → MatchOption r (AllZero o xs cols from rows col) (λ i. (from ≤ i) × (i < rows) × (cell o xs cols i col ≡ o.zero → ⊥) × AllZero o xs cols from i col)
+    → MatchOption r (AllZero o xs cols from rows col) (λ i. FirstNonzero o xs cols from rows col i)
+first_nonzero o xs cols from rows col None p = p
+first_nonzero o xs cols from rows col (Some i) p = record { low = p.0; high = p.1; nonzero = p.2; earlier = p.3 }
 
 module _ {F : Type 0} {o : Ops F} (laws : Laws o) (rows cols rank col : ℕ) where
   -- the row found is zero left of the column, also after it was exchanged and scaled

@@ -22,10 +22,18 @@ pub record Blank {F : Type 0} (o : Ops F) (n : ℕ) (xs ys : List F) : Type 0 wh
   pub zeros : (k : ℕ) → k < n → slice_index_or ys k o.zero ≡ o.zero
   pub kept : Kept o n xs ys
 
--- ys is xs with `factor` times the row `from` added to the row `to`
-pub record Added {F : Type 0} (o : Ops F) (cols from to : ℕ) (factor : F) (xs ys : List F) : Type 0 where
-  pub there : (c : ℕ) → c < cols → cell o ys cols to c ≡ o.add (cell o xs cols to c) (o.mul factor (cell o xs cols from c))
-  pub others : (r c : ℕ) → (r ≢ to) → c < cols → cell o ys cols r c ≡ cell o xs cols r c
+-- the row ys is xs with `factor` times the row zs added
+abbrev pub Added : {F : Type 0} → Ops F → F → List F → List F → List F → Type 0
+Added o factor zs xs ys = (c : ℕ) → c < length xs → slice_index_or ys c o.zero ≡ o.add (slice_index_or xs c o.zero) (o.mul factor (slice_index_or zs c o.zero))
+
+-- the row zs is zero before the column `col`
+abbrev pub BlankBefore : {F : Type 0} → Ops F → ℕ → List F → Type 0
+BlankBefore o col zs = (c : ℕ) → c < col → slice_index_or zs c o.zero ≡ o.zero
+
+-- to each whole row of xs is added the row zs by the row's cell in the column `col`
+abbrev pub ClearedRows : {F : Type 0} → Ops F → ℕ → ℕ → List F → List F → List F → Type 0
+ClearedRows o cols col zs xs ys =
+    (r c : ℕ) → r * cols + cols ≤ length xs → c < cols → cell o ys cols r c ≡ o.add (cell o xs cols r c) (o.mul (cell o xs cols r col) (slice_index_or zs c o.zero))
 
 -- ys is xs with the rows a and b exchanged
 pub record Swapped {F : Type 0} (o : Ops F) (cols a b : ℕ) (xs ys : List F) : Type 0 where

@@ -4,13 +4,6 @@ use Rattle.fields.specs.Field.{Ops}
 use Rattle.algebra.specs.Grid.{cell, Kept}
 use Rattle.algebra.specs.Linear.{Equivalent, Represents, ColumnComb, OnIndependent}
 
--- the column `col` is zero in the rows from low to below high; the other rows, and the columns where the row `row` is zero, are as they were
-pub record ClearedRows {F : Type 0} (o : Ops F) (cols row col low high : ℕ) (xs ys : List F) : Type 0 where
-  pub zeros : (r : ℕ) → low ≤ r → r < high → cell o ys cols r col ≡ o.zero
-  pub kept : (r c : ℕ) → c < cols → cell o xs cols row c ≡ o.zero → cell o ys cols r c ≡ cell o xs cols r c
-  pub outside : (r c : ℕ) → (low ≤ r → r < high → ⊥) → c < cols → cell o ys cols r c ≡ cell o xs cols r c
-  pub same : (rows : ℕ) → row < rows → high ≤ rows → Equivalent o rows cols (cell o xs cols) (cell o ys cols)
-
 -- the column `col` is zero but in the row `row`; that row, the columns where it is zero and the rows past the grid are as they were
 pub record Cleared {F : Type 0} (o : Ops F) (rows cols row col : ℕ) (xs ys : List F) : Type 0 where
   pub zeros : (r : ℕ) → r < rows → (r ≢ row) → cell o ys cols r col ≡ o.zero

@@ -1,13 +1,14 @@
 -- A line of a script is cut in one way only, and its letter tells what it asks. Assumes nothing.
-use Rattle.std.proofs.Common.{◌≡◌, ℕ, ◌+◌, ◌-◌, ◌*◌, ◌%◌, ◌<◌, ◌≤◌, List, [], ◌∷◌, ◌++◌, length, get_or, take, drop, Some, None, Option, sym, refl, ap, ◌∙◌, subst, arith}
+use Rattle.std.proofs.Common.{◌≡◌, ℕ, true, false, nat_eq, ◌+◌, ◌-◌, ◌*◌, ◌<◌, ◌≤◌, List, [], ◌∷◌, ◌++◌, length, get_or, take, drop, Some, None, Option, sym, refl, ap, ◌∙◌, subst, arith}
+use Rattle.std.specs.Cmp.Lexicographic.{pointwise, same_text, other_text}
 use Rattle.std.proofs.lemmas.List.{length-append, get_or_at, get_or_append_left, get_or-append_right, get_or-take, take_at, drop_at, drop_more, take-append-drop, append_assoc, same_lists, get_or_default}
 use Rattle.nulla.specs.declared.call.Call.{Call}
 use Rattle.nulla.specs.Requests.{Request, try_edge, check_certificate, IsCheck}
 use Rattle.plan.specs.Lines.{Found}
 use Rattle.plan.specs.Spelling.{Decimal, Names, Spells, opens, adds, removes, raises, Malformed, Parsed as PlanParsed}
 use Rattle.plan.proofs.Spelled.{found_once, names_found, names_once, spelled_once}
-use Rattle.calling.specs.Digits.{HexDigits, Writes}
-use Rattle.calling.specs.Script.{NamesThree, Hands, HandsDigits, Asks, planned, tries, checks, AskedOnce, Unchecked, Parsed}
+use Rattle.calling.specs.Digits.{Writes}
+use Rattle.calling.specs.Script.{NamesThree, Hands, HandsDigits, Asks, planned, tries, checks, AskedOnce, Parsed}
 
 -- A line cut at its second space after the letter's.
 pub record Cut (letter : ℕ) (line : List ℕ) (space i j d : ℕ) : Type 0 where
@@ -119,16 +120,9 @@ unplanned line other malformed q (planned s) = absurd (malformed q s)
 unplanned line other malformed _ (tries {i = i} {j = j} {d = d} n) = absurd (other (three_letter 84 line i j d n))
 unplanned line other malformed _ (checks h) = tt
 
--- A plan's line asks for no check.
-planned_unchecked : {line : List ℕ} {q : Request} → Spells line q → IsCheck q → ⊥
-planned_unchecked (opens e) check = check
-planned_unchecked (adds n) check = check
-planned_unchecked (removes n) check = check
-planned_unchecked (raises e) check = check
-
 -- What a line of another letter than `T` says as a plan's line, it says as a script's.
 pub as_planned : (line : List ℕ) (r : Option Call) → (get_or line 0 0 ≡ 84 → ⊥) → PlanParsed line r → Parsed line r
-as_planned line (Some call) other s = (planned s, planned_unchecked s)
+as_planned line (Some call) other s = (planned s, unspelled s)
 as_planned line None other malformed = unplanned line other malformed
 
 -- A line with the letter `T` that names no three numbers says nothing.
@@ -173,40 +167,13 @@ asked_once line _ b (checks h) (planned s) = absurd ((spelled_letter s).1 (hands
 asked_once line _ _ (checks h) (tries {i = i} {j = j} {d = d} n) = absurd (omega (arith, three_letter 84 line i j d n, hands_letter h))
 asked_once line _ _ (checks {bytes = a} v) (checks {bytes = b} w) = ap check_certificate (hands_once line a b v w)
 
--- What a line that hands over a certificate looks like.
-pub record Looks (line : List ℕ) : Type 0 where
-  pub long : 4 ≤ length line
-  pub even : length line % 2 ≡ 0
-  pub letter : get_or line 0 0 ≡ 75
-  pub spaced : get_or line 1 0 ≡ 32
-  pub each : HexDigits (drop 2 line)
+-- The first byte of a line that begins with `T`, and of one that doesn't.
+pub led : (line : List ℕ) → true ≡ pointwise nat_eq (84 ∷ []) (take 1 line) → get_or line 0 0 ≡ 84
+led line e = sym (get_or-take 1 line 0 0 (omega arith)) ∙ ap (λ t. get_or t 0 0) (sym (same_text (84 ∷ []) (take 1 line) e))
 
-pub hands_looks : {line bytes : List ℕ} → Hands line bytes → Looks line
-hands_looks {line} {bytes} h =
-    let long : length line ≡ 2 + 2 * length bytes = hands_long h in
-    let some = h.some in
-    record {
-      long = omega arith;
-      even = omega arith;
-      letter = hands_letter h;
-      spaced = ap (λ t. get_or t 1 0) h.is;
-      each = subst HexDigits (sym (ap (drop 2) h.is)) h.digits_are.each;
-    }
-
-pub unchecked : {line : List ℕ} → (Looks line → ⊥) → Unchecked line
-unchecked unlike bytes asks = unlike (hands_looks (hands asks))
-
-pub looks_hands : (line : List ℕ) → Looks line → HandsDigits line (drop 2 line)
-looks_hands line s =
-    let zeroth : line ≡ get_or line 0 0 ∷ drop 1 line = drop_more line 0 0 (omega (arith, s.long)) in
-    let first : drop 1 line ≡ get_or line 1 0 ∷ drop 2 line = drop_more line 1 0 (omega (arith, s.long)) in
-    let long : length line ≡ 2 + length (drop 2 line) = ap length (zeroth ∙ ap (λ t. get_or line 0 0 ∷ t) first) ∙ omega arith in
-    record {
-      is = zeroth ∙ ap (λ t. get_or line 0 0 ∷ t) first ∙ ap (λ b. b ∷ get_or line 1 0 ∷ drop 2 line) s.letter ∙ ap (λ b. 75 ∷ b ∷ drop 2 line) s.spaced;
-      each = s.each;
-      even = omega (arith, s.even);
-      some = omega (arith, s.long);
-    }
+pub unled : (line : List ℕ) → false ≡ pointwise nat_eq (84 ∷ []) (take 1 line) → get_or line 0 0 ≡ 84 → ⊥
+unled [] e h = omega arith
+unled (byte ∷ rest) e h = other_text (84 ∷ []) (take 1 (byte ∷ rest)) e (ap (λ b. b ∷ []) (sym h))
 
 -- The bytes that the digits on a line write are what a check is asked of.
 pub handed_asks : {line digits : List ℕ} (bytes : List ℕ) → HandsDigits line digits → Writes digits bytes → Asks line (check_certificate bytes)

@@ -1,6 +1,4 @@
-pub mod Joining
 pub mod Asking
 pub mod Reading
 pub mod Replying
 pub mod Saying
-pub mod Lending

@@ -1,64 +1,48 @@
 -- The reply to a line, put together from what the line hands over or says. Assumes nothing.
-use Rattle.std.proofs.Common.{◌≡◌, ℕ, ◌-◌, ◌*◌, ◌/◌, ◌<◌, ◌≤◌, List, ◌++◌, map, length, take, drop, sym, ap, subst, arith}
-use Rattle.std.specs.List.{range_with_len}
+use Rattle.std.proofs.Common.{◌≡◌, ℕ, ◌*◌, ◌/◌, ◌<◌, ◌≤◌, List, ◌++◌, length, take, drop, Err, sym, ap, subst, arith}
 use Rattle.std.proofs.lemmas.List.{take_at}
-use Rattle.std.proofs.lemmas.List.FromFn.{length-map-range_with_len, get_or-map-range_with_len}
 use Rattle.fields.specs.Field.{Ops}
 use Rattle.certificates.specs.Outcome.{Memory}
 use Rattle.certificates.specs.declared.refusal.Refusal.TheVariants.{OutputTooSmall}
-use Rattle.nulla.specs.declared.reply.Reply.{Reply}
-use Rattle.nulla.specs.declared.reply.Reply.TheVariants.{Refused}
+use Rattle.nulla.specs.Replies.{Reply}
 use Rattle.nulla.specs.Requests.{Request, check_certificate, IsCheck}
 use Rattle.nulla.specs.State.{State}
 use Rattle.nulla.specs.Steps.{Lists, Step}
 use Rattle.plan.specs.Texts.{Turn, says}
-use Rattle.calling.specs.Digits.{byte_at, Writes}
+use Rattle.calling.specs.Digits.{Writes}
 use Rattle.calling.specs.Script.{HandsDigits, Asks, planned, tries, checks, Unchecked, Fits, Replied, turned, too_long, Holds, decoded, left}
+use Rattle.calling.proofs.Reading.{pairs, pairs_written}
 use Rattle.calling.proofs.Asking.{unspelled, hands, hands_long, handed_asks}
 
 -- how many bytes a line hands over
 handed_long : {line digits bytes : List ℕ} → HandsDigits line digits → Asks line (check_certificate bytes) → length bytes ≡ length digits / 2
 handed_long h asks = omega (arith, hands_long (hands asks), ap length h.is)
 
--- the bytes that the digits on a line write
-written : (digits : List ℕ) → List ℕ
-written digits = map (λ k. byte_at digits (2 * k)) (range_with_len 0 (length digits / 2))
-
-written_is : {line digits : List ℕ} → HandsDigits line digits → Writes digits (written digits)
-unfolding written
-written_is {digits = digits} h =
-    let long = length-map-range_with_len (λ k. byte_at digits (2 * k)) 0 (length digits / 2) in
-    record {
-      twice = omega (arith, h.even);
-      each = h.each;
-      value = λ k less. get_or-map-range_with_len (λ k. byte_at digits (2 * k)) 0 (length digits / 2) k k 0 (omega arith) (omega arith);
-    }
-
 -- a line that hands over digits asks for a check
 pub handed_some : {line digits : List ℕ} → HandsDigits line digits → (bytes : List ℕ) × Asks line (check_certificate bytes)
-handed_some {digits = digits} h = (written digits, handed_asks (written digits) h (written_is h))
+handed_some {digits = digits} h = (pairs digits, handed_asks (pairs digits) h (pairs_written digits h.even h.each))
 
 -- the digits, decoded at the front of the memory
 module _ {line digits : List ℕ} (given bytes : List ℕ) (h : HandsDigits line digits) (w : Writes digits bytes) (room : length digits / 2 ≤ length given) where
-  count : length digits / 2 - 0 ≡ length bytes
+  count : length digits / 2 ≡ length bytes
   count = omega (arith, w.twice)
 
-  front : take (length digits / 2 - 0) (bytes ++ drop (length digits / 2 - 0) given) ≡ bytes
-  front = take_at bytes (drop (length digits / 2 - 0) given) (length digits / 2 - 0) (sym count)
+  front : take (length digits / 2) (bytes ++ drop (length digits / 2) given) ≡ bytes
+  front = take_at bytes (drop (length digits / 2) given) (length digits / 2) (sym count)
 
   fits : Fits line (length given)
   fits other asks = omega (arith, handed_long h asks)
 
-  pub checked_turn : {F : Type 0} {o : Ops F} {l : Lists F} {s t : State} {m k : Memory F} {r : Reply} → Step o l (check_certificate (take (length digits / 2 - 0) (bytes ++ drop (length digits / 2 - 0) given))) s m r t k → Replied o l line (length given) s m r t k
+  pub checked_turn : {F : Type 0} {o : Ops F} {l : Lists F} {s t : State} {m k : Memory F} {r : Reply} → Step o l (check_certificate (take (length digits / 2) (bytes ++ drop (length digits / 2) given))) s m r t k → Replied o l line (length given) s m r t k
   checked_turn {o = o} {l = l} {s = s} {t = t} {m = m} {k = k} {r = r} step =
       turned fits (says (handed_asks bytes h w) (subst (λ b. Step o l (check_certificate b) s m r t k) front step))
 
-  pub checked_holds : Holds line given (bytes ++ drop (length digits / 2 - 0) given)
+  pub checked_holds : Holds line given (bytes ++ drop (length digits / 2) given)
   checked_holds =
       subst (λ n. Holds line given (bytes ++ drop n given)) (sym count) (decoded (handed_asks bytes h w) (omega (arith, w.twice)))
 
 -- the memory is too short for them
-pub refused_turn : {F : Type 0} {o : Ops F} {l : Lists F} {line digits : List ℕ} {s : State} {m : Memory F} (given : List ℕ) → HandsDigits line digits → length given < length digits / 2 → Replied o l line (length given) s m (Refused OutputTooSmall) s m
+pub refused_turn : {F : Type 0} {o : Ops F} {l : Lists F} {line digits : List ℕ} {s : State} {m : Memory F} (given : List ℕ) → HandsDigits line digits → length given < length digits / 2 → Replied o l line (length given) s m (Err OutputTooSmall) s m
 refused_turn given h short = too_long (handed_some h).1 (omega (arith, handed_long h (handed_some h).1))
 
 pub refused_holds : {line digits : List ℕ} (given : List ℕ) → HandsDigits line digits → length given < length digits / 2 → Holds line given given

@@ -1,12 +1,11 @@
 -- What a line of a script says: what a line of a plan says, or `T i j d`, which tries an edge at a degree, or `K HEX`, which checks a
 -- certificate. Assumes nothing.
-use Rattle.std.specs.Prelude.{◌≡◌, ℕ, ◌%◌, ◌<◌, ◌≤◌, List, ◌∷◌, ◌++◌, length, drop, Some, None, Option, slice_index}
+use Rattle.std.specs.Prelude.{◌≡◌, ℕ, ◌%◌, ◌<◌, ◌≤◌, List, ◌∷◌, ◌++◌, length, drop, Some, None, Option, Err, slice_index}
 use Rattle.fields.specs.Field.{Ops}
 use Rattle.certificates.specs.Outcome.{Memory}
 use Rattle.certificates.specs.declared.refusal.Refusal.TheVariants.{OutputTooSmall}
 use Rattle.nulla.specs.declared.call.Call.{Call}
-use Rattle.nulla.specs.declared.reply.Reply.{Reply}
-use Rattle.nulla.specs.declared.reply.Reply.TheVariants.{Refused}
+use Rattle.nulla.specs.Replies.{Reply}
 use Rattle.nulla.specs.Requests.{Request, try_edge, check_certificate, IsCheck, request_of}
 use Rattle.nulla.specs.State.{State}
 use Rattle.nulla.specs.Steps.{Lists}
@@ -73,7 +72,7 @@ Fits line most = (bytes : List ℕ) → Asks line (check_certificate bytes) → 
 -- too short, a refusal that changes nothing.
 pub data Replied {F : Type 0} (o : Ops F) (l : Lists F) (line : List ℕ) (most : ℕ) : State → Memory F → Reply → State → Memory F → Type 0 where
   turned : {s t : State} {m k : Memory F} {r : Reply} → Fits line most → Turn Asks o l line s m r t k → Replied o l line most s m r t k
-  too_long : {bytes : List ℕ} {s : State} {m : Memory F} → Asks line (check_certificate bytes) → most < length bytes → Replied o l line most s m (Refused OutputTooSmall) s m
+  too_long : {bytes : List ℕ} {s : State} {m : Memory F} → Asks line (check_certificate bytes) → most < length bytes → Replied o l line most s m (Err OutputTooSmall) s m
 
 -- What the memory for a check's certificate holds after a line: the certificate in front, and the rest as it was. Any other line leaves it,
 -- and so does a certificate that is longer.

@@ -1,8 +1,9 @@
 -- What two solvers reply to a line, as text, where a line may ask for a check: a check's replies stand on two lines. Assumes nothing.
 use Rattle.std.specs.Prelude.{ℕ, List, [], ◌∷◌, ◌++◌, codes}
-use Rattle.nulla.specs.declared.reply.Reply.{Reply}
+use Rattle.nulla.specs.Replies.{Reply}
 use Rattle.nulla.specs.Requests.{check_certificate}
-use Rattle.certifying.specs.Text.{words_of, Answer}
+use Rattle.nulla.specs.Words.{words_of}
+use Rattle.certifying.specs.Text.{Answer}
 use Rattle.calling.specs.Script.{Asks, Unchecked}
 
 -- The text for a check: the words of each reply on a line of its own, under the name of the solver.

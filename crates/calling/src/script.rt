@@ -13,14 +13,7 @@ use plan::line;
 use plan::line::{ends, number};
 use plan::lines::find;
 
-const TRY: u8 = b'T';
-
-const CHECK: u8 = b'K';
-
 const SPACE: u8 = b' ';
-
-// The letter, the space and two digits.
-const SHORTEST_CHECK: usize = 4;
 
 // The three numbers after a line's letter.
 fn three(line: &[u8]) -> Option<(usize, usize, usize)>
@@ -28,15 +21,9 @@ fn three(line: &[u8]) -> Option<(usize, usize, usize)>
 {
     let first = find(line, SPACE, 2);
     let second = find(line, SPACE, first + 1);
-    if second >= line.len() {
-        return None;
-    }
-    let Some((i, j)) = ends(&line[0..second]) else {
-        return None;
-    };
-    let Some(d) = number(&line[second + 1..]) else {
-        return None;
-    };
+    let third = line.get(second + 1..)?;
+    let (i, j) = ends(&line[..second])?;
+    let d = number(third)?;
     Some((i, j, d))
 }
 
@@ -44,26 +31,22 @@ fn three(line: &[u8]) -> Option<(usize, usize, usize)>
 pub fn parse(line: &[u8]) -> Option<Call<'static>>
     ensures { Parsed line.now result }
 {
-    if line.len() == 0 || line[0] != TRY {
+    if !line.starts_with(b"T") {
         return line::parse(line);
     }
-    match three(line) {
-        Some((i, j, d)) => Some(Call::TryEdge(i, j, d)),
-        None => None,
-    }
+    let (i, j, d) = three(line)?;
+    Some(Call::TryEdge(i, j, d))
 }
 
 /// The digits of the certificate that a line hands over for a check; none where it asks for no check.
 pub fn handed(line: &[u8]) -> Option<&[u8]>
     ensures { Handed line.now (option_map (λ x. x.now) result) }
 {
-    if line.len() < SHORTEST_CHECK || line.len() % 2 != 0 {
+    let rest = line.strip_prefix(b"K ")?;
+    if rest.is_empty() || rest.len() % 2 != 0 || !is_hexadecimal(rest) {
         return None;
     }
-    if line[0] != CHECK || line[1] != SPACE || !is_hexadecimal(&line[2..]) {
-        return None;
-    }
-    Some(&line[2..])
+    Some(rest)
 }
 
 /// Has a solver make the call that a line says; a line that says none is refused. The certificate on a line is decoded into `given`, and
@@ -82,20 +65,16 @@ pub fn reply_to<E: Encoding>(
     if let Some(digits) = handed(line) {
         let length = digits.len() / 2;
         if length > given.len() {
-            return Reply::Refused(Refusal::OutputTooSmall);
+            return Err(Refusal::OutputTooSmall);
         }
-        decode(digits, &mut given[0..length]);
-        return solver.make(Call::Check(&given[0..length]), table, certificate);
+        decode(digits, &mut given[..length]);
+        return solver.make(Call::Check(&given[..length]), table, certificate);
     }
-    match parse(line) {
-        Some(call) => solver.make(call, table, certificate),
-        None => Reply::Refused(Refusal::MalformedLine),
-    }
+    let call = parse(line).ok_or(Refusal::MalformedLine)?;
+    solver.make(call, table, certificate)
 }
 
 /// A line says one thing at most.
-pub fn asking_stands() -> u8
+pub fn asking_stands()
     ensures { AskedOnce }
-{
-    0
-}
+{}

@@ -1,14 +1,9 @@
-// A solver with memory of its own for every call. The memory is on the heap: tables for graphs that people ask about are larger than a
-// stack.
-use nulla::Solver;
-
+// A side that can also be handed a certificate to check. Its memory is on the heap too.
 pub mod calls;
 
-/// A solver, the memory that each of its calls is lent, and the memory for the certificate that a check is handed.
+/// A solver with the memory of its calls, and the memory for the certificate that a check is handed.
 #[derive(Drop)]
 pub struct Side<E, C> {
-    solver: Solver<E>,
-    table: Vec<C>,
-    certificate: Vec<u8>,
+    side: certifying::side::Side<E, C>,
     given: Vec<u8>,
 }

@@ -1,7 +1,7 @@
 -- Which ground a check is refused on, and what is known of the bytes where none holds. Assumes nothing.
-use Rattle.std.proofs.Common.{◌≡◌, ℕ, ◌+◌, ◌<◌, ◌≤◌, true, ◌⊎◌, List, length, sym, refl, ap, subst, inl, inr, arith}
+use Rattle.std.proofs.Common.{◌≡◌, ℕ, ◌+◌, ◌<◌, ◌≤◌, true, ◌⊎◌, List, length, refl, ap, subst, inl, inr, arith}
 use Rattle.std.proofs.lemmas.Bool.{cases_eq, cases_lt}
-use Rattle.certificates.specs.declared.refusal.Refusal.TheVariants.{TableTooSmall, MalformedBody}
+use Rattle.certificates.specs.declared.refusal.Refusal.TheVariants.{MalformedBody}
 use Rattle.certificates.specs.declared.sizes.Sizes.{Sizes}
 use Rattle.certificates.specs.Checking.{degree_of, BitPast, BadCode, heads, checking, Admitted}
 use Rattle.certificates.specs.Grounds.{First, Clear}
@@ -28,20 +28,6 @@ module _ (order n e : ℕ) (bytes : List ℕ) (elements : ℕ) (z : Sizes) where
     pub malformed : BitPast z.products bytes ⊎ BadCode order z.products bytes → First (checking order n e bytes elements) MalformedBody
     malformed b =
         inr (head.0, inr (head.1.0, inr (not_excess e n (degree_of bytes) z is, inr (no_other_length, inl (subst (λ (s : Sizes). BitPast s.products bytes ⊎ BadCode order s.products bytes) is.is b, refl)))))
-
-    well : (BitPast z.products bytes → ⊥) → (BadCode order z.products bytes → ⊥) → BitPast p bytes ⊎ BadCode order p bytes → ⊥
-    well bits codes (inl b) = bits (subst (λ (s : Sizes). BitPast s.products bytes) (sym is.is) b)
-    well bits codes (inr b) = codes (subst (λ (s : Sizes). BadCode order s.products bytes) (sym is.is) b)
-
-    pub small_table : (BitPast z.products bytes → ⊥) → (BadCode order z.products bytes → ⊥) → elements < z.rows → First (checking order n e bytes elements) TableTooSmall
-    small_table bits codes few =
-        inr (head.0, inr (head.1.0, inr (not_excess e n (degree_of bytes) z is, inr (no_other_length, inr (well bits codes, inl (subst (λ (s : Sizes). elements < s.rows) is.is few, refl))))))
-
-    pub admitted : (BitPast z.products bytes → ⊥) → (BadCode order z.products bytes → ⊥) → z.rows ≤ elements → Admitted order n e bytes elements z
-    admitted bits codes room = record {
-      measured = is;
-      clear = (head.0, (head.1.0, (not_excess e n (degree_of bytes) z is, (no_other_length, (well bits codes, ((λ l. omega (arith, room, ap (λ (s : Sizes). s.rows) is.is)), tt))))));
-    }
 
   module _ (a : Admitted order n e bytes elements z) where
     pub degree_is : z.degree ≡ degree_of bytes

@@ -1,6 +1,6 @@
 -- From coefficients in front of a table to a written certificate, and from a blanked grid to a cleared table.
 -- Assumes nothing.
-use Rattle.std.proofs.Common.{◌≡◌, ℕ, zero, suc, ◌+◌, ◌-◌, ◌<◌, ◌≤◌, ◌⊎◌, List, ◌++◌, length, get_or, take, drop, replicate, Some, None, Option, sym, refl, ap, ◌∙◌, subst, inl, inr, arith, length-append, length-drop, length-take, get_or-drop, get_or-take}
+use Rattle.std.proofs.Common.{◌≡◌, ℕ, zero, suc, ◌+◌, ◌-◌, ◌<◌, ◌≤◌, ◌⊎◌, List, ◌++◌, length, get_or, take, drop, replicate, Some, None, Option, MatchOption, sym, refl, ap, ◌∙◌, subst, inl, inr, arith, length-append, length-drop, length-take, get_or-drop, get_or-take}
 use Rattle.std.proofs.lemmas.Bool.{cases_lt}
 use Rattle.std.proofs.lemmas.List.{get_or_append_left, get_or-append_right, length-replicate, get_or-replicate}
 use Rattle.fields.specs.Field.{Ops}
@@ -9,6 +9,7 @@ use Rattle.polynomials.specs.declared.term.Term.{Term}
 use Rattle.polynomials.specs.Polynomial.{IsOne, scaled}
 use Rattle.polynomials.specs.Product.{product, products, weighted, combination}
 use Rattle.layout.specs.Certificate.{bytes_of, over}
+use Rattle.certificates.specs.declared.verdict.Verdict.{Verdict}
 use Rattle.certificates.specs.declared.verdict.Verdict.TheVariants.{Infeasible, Open}
 use Rattle.certificates.specs.Outcome.{memory, Chosen, Sought, written, cleared, Worked, certified, uncertified}
 use Rattle.layout.specs.Length.{certificate_bytes}
@@ -33,20 +34,20 @@ module _ {F : Type 0} (o : Ops F) where
   -- the coefficients are written
   pub stored_sought : (n d : ℕ) (eqs : List (List (Term F))) (xs : List F) (p : ℕ) (before : List ℕ) (r : Option ℕ) (after : List ℕ) → p ≡ products n d eqs → p ≤ length xs → p ≤ 1000000
       → length eqs ≤ 65535 → certificate_bytes p ≤ length before → Chosen o n d eqs (λ k. get_or xs k o.zero)
-      → Stored o (take (p - 0) xs) n d (length eqs) before r after → Sought o n d eqs before r after
+      → Stored o (take p xs) n d (length eqs) before r after → Sought o n d eqs before r after
   stored_sought n d eqs xs p before None after e h small few room c s =
-      let long : length (take (p - 0) xs) ≡ p = length-take (p - 0) xs ∙ omega arith in
+      let long : length (take p xs) ≡ p = length-take p xs ∙ omega arith in
       absurd (never s.0 long)
     where
-      never : (1000000 < length (take (p - 0) xs)) ⊎ (65535 < length eqs) ⊎ (length before < certificate_bytes (length (take (p - 0) xs))) → length (take (p - 0) xs) ≡ p → ⊥
+      never : (1000000 < length (take p xs)) ⊎ (65535 < length eqs) ⊎ (length before < certificate_bytes (length (take p xs))) → length (take p xs) ≡ p → ⊥
       never (inl x) long = omega (arith, long)
       never (inr (inl x)) long = omega arith
       never (inr (inr x)) long = let y : length before < certificate_bytes p = subst (λ (k : ℕ). length before < certificate_bytes k) long x in omega arith
   stored_sought n d eqs xs p before (Some k) after e h small few room c s =
-      let long : length (take (p - 0) xs) ≡ products n d eqs = length-take (p - 0) xs ∙ omega (arith, e) in
-      let x : ℕ → F = λ q. get_or (take (p - 0) xs) q o.zero in
-      let same : bytes_of o (length (take (p - 0) xs)) x n d (length eqs) ≡ written o n d eqs x = ap (λ (q : ℕ). bytes_of o q x n d (length eqs)) long in
-      (x, chosen_same n d eqs (λ q. get_or xs q o.zero) x (λ q l. sym (get_or-take (p - 0) xs q o.zero (omega (arith, e)))) c, s.1 ∙ ap length same, s.2 ∙ ap (λ (b : List ℕ). over b before) same)
+      let long : length (take p xs) ≡ products n d eqs = length-take p xs ∙ omega (arith, e) in
+      let x : ℕ → F = λ q. get_or (take p xs) q o.zero in
+      let same : bytes_of o (length (take p xs)) x n d (length eqs) ≡ written o n d eqs x = ap (λ (q : ℕ). bytes_of o q x n d (length eqs)) long in
+      (x, chosen_same n d eqs (λ q. get_or xs q o.zero) x (λ q l. sym (get_or-take p xs q o.zero (omega (arith, e)))) c, s.1 ∙ ap length same, s.2 ∙ ap (λ (b : List ℕ). over b before) same)
 
   -- the table after its first part is blank
   pub blank_table : (k : ℕ) (xs ys : List F) → k ≤ length xs → Blank o k xs ys → ys ≡ replicate k o.zero ++ drop k xs
@@ -70,15 +71,23 @@ module _ {F : Type 0} (o : Ops F) where
       (λ i l. get_or-drop k ys i o.zero ∙ p.beyond (k + i) (omega arith) ∙ sym (get_or-drop k xs i o.zero)))
 
   -- a verdict from what was sought, with the table cleared
-  pub worked_some : (n d : ℕ) (eqs : List (List (Term F))) (table after_table : List F) (before after : List ℕ) (k : ℕ) → after_table ≡ cleared o n d eqs table → Sought o n d eqs before (Some k) after
+  worked_some : (n d : ℕ) (eqs : List (List (Term F))) (table after_table : List F) (before after : List ℕ) (k : ℕ) → after_table ≡ cleared o n d eqs table → Sought o n d eqs before (Some k) after
       → Worked o n d eqs (memory table before) (Infeasible d k) (memory after_table after)
   worked_some n d eqs table after_table before after k e (x, c, p, q) =
       subst (λ (t : List F). Worked o n d eqs (memory table before) (Infeasible d k) (memory t after)) (sym e)
       (subst (λ (b : List ℕ). Worked o n d eqs (memory table before) (Infeasible d k) (memory (cleared o n d eqs table) b)) (sym q)
       (subst (λ (j : ℕ). Worked o n d eqs (memory table before) (Infeasible d j) (memory (cleared o n d eqs table) (over (written o n d eqs x) before))) (sym p) (certified x c)))
 
-  pub worked_none : (n d : ℕ) (eqs : List (List (Term F))) (table after_table : List F) (before after : List ℕ) → after_table ≡ cleared o n d eqs table → Sought o n d eqs before None after
+  worked_none : (n d : ℕ) (eqs : List (List (Term F))) (table after_table : List F) (before after : List ℕ) → after_table ≡ cleared o n d eqs table → Sought o n d eqs before None after
       → Worked o n d eqs (memory table before) (Open d) (memory after_table after)
   worked_none n d eqs table after_table before after e (c, q) =
       subst (λ (t : List F). Worked o n d eqs (memory table before) (Open d) (memory t after)) (sym e)
       (subst (λ (b : List ℕ). Worked o n d eqs (memory table before) (Open d) (memory (cleared o n d eqs table) b)) (sym q) (uncertified c))
+
+  -- a verdict from what was sought, whether it was found or not
+  pub worked : (n d : ℕ) (eqs : List (List (Term F))) (table after_table : List F) (before after : List ℕ) (found : Option ℕ) (v : Verdict) → MatchOption found (v ≡ Open d) (λ k. v ≡ Infeasible d k)
+      → after_table ≡ cleared o n d eqs table → Sought o n d eqs before found after → Worked o n d eqs (memory table before) v (memory after_table after)
+  worked n d eqs table after_table before after None v is e s =
+      subst (λ (w : Verdict). Worked o n d eqs (memory table before) w (memory after_table after)) (sym is) (worked_none n d eqs table after_table before after e s)
+  worked n d eqs table after_table before after (Some k) v is e s =
+      subst (λ (w : Verdict). Worked o n d eqs (memory table before) w (memory after_table after)) (sym is) (worked_some n d eqs table after_table before after k e s)

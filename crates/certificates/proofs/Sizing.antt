@@ -54,10 +54,12 @@ module _ (n d : ℕ) (few : n ≤ 24) (low : d ≤ 48) where
       pub many_products : (e : ℕ) → 1000000 < e * k → Excess e n d
       many_products e l = inr (omega (arith, exact_products e))
 
-      pub measured : (e : ℕ) → e * k ≤ 1000000
-          → Measured e n d (record { vertices = n; degree = d; equations = e; multipliers = k; products = e * k; rows = r; cells = r * (e * k + 1); map = (e * k + 7) / 8; bytes = 6 + (e * k + 7) / 8 + e * k })
-      measured e l = record {
-        is = alike r (rows n d) k (multipliers n d) (e * k) (products e n d) exact_rows exact_multipliers (exact_products e);
+      pub measured : (e map : ℕ) → map ≡ (e * k + 7) / 8 → e * k ≤ 1000000
+          → Measured e n d (record { vertices = n; degree = d; equations = e; multipliers = k; products = e * k; rows = r; cells = r * (e * k + 1); map = map; bytes = 6 + map + e * k })
+      measured e map q l = record {
+        is =
+            ap (λ (m : ℕ). record { vertices = n; degree = d; equations = e; multipliers = k; products = e * k; rows = r; cells = r * (e * k + 1); map = m; bytes = 6 + m + e * k }) q
+            ∙ alike r (rows n d) k (multipliers n d) (e * k) (products e n d) exact_rows exact_multipliers (exact_products e);
         few_rows = omega (arith, exact_rows);
         few_products = omega (arith, exact_products e);
       }

@@ -1,6 +1,11 @@
 -- Adding up the products of a certificate, one after the other. Assumes nothing.
-use Rattle.std.proofs.Common.{◌≡◌, ℕ, ◌+◌, ◌*◌, ◌/◌, ◌%◌, ◌<◌, ◌≤◌, true, false, cond, eqb, List, [], length, get_or, sym, ap, ◌∙◌, subst, inl, inr, add-one, arith}
-use Rattle.std.proofs.lemmas.Bool.{cases_eq, eq-eqb, ne_eqb, cond-true, cond-false}
+use Rattle.std.proofs.Common.{◌≡◌, ℕ, zero, suc, ◌+◌, ◌*◌, ◌/◌, ◌%◌, ◌<◌, ◌≤◌, true, false, cond, eqb, ◌&&◌, Bool, List, [], ◌∷◌, length, drop, get_or, get_or-drop, drop-drop, Decides, Iter, Bor, Option, None, Some, sym, refl, ap, ◌∙◌, subst, inl, inr, add-one, arith}
+use Rattle.std.specs.List.{list_all, enumerate_from}
+use Rattle.std.proofs.lemmas.List.{nil_from_length, drop_all, take_rest}
+use Rattle.std.specs.Slice.{IsGetRangeResult}
+use Rattle.std.specs.Option.{unwrap_or, option_map}
+use Rattle.std.specs.Slice.Iter.{iter_rest, iter_steps}
+use Rattle.std.proofs.lemmas.Bool.{cases_Bool, cases_eq, eqb-true, false≢true, eq-eqb, ne_eqb, cond-true, cond-false}
 use Rattle.fields.specs.Field.{Ops, Laws}
 use Rattle.algebra.specs.Grid.{Kept}
 use Rattle.algebra.specs.Held.{held, Held}
@@ -20,6 +25,30 @@ use Rattle.certificates.specs.Summing.{Totals}
 use Rattle.certificates.proofs.Grids.{held_then, kept_then}
 use Rattle.certificates.proofs.Standing.{before_more}
 
+-- the bytes behind a place, none where the place is past the end
+pub behind : (bytes : List ℕ) (at : ℕ) (r : Option (Bor (List ℕ))) (b : Bor (List ℕ)) → IsGetRangeResult bytes at (length bytes) r → b.now ≡ [] → (unwrap_or r b).now ≡ drop at bytes
+behind bytes at None b h e = e ∙ sym (drop_all at bytes (elim h.0 [ inl l ↦ omega arith | inr l ↦ absurd (omega arith) ]))
+behind bytes at (Some x) b h e = h.0.2 ∙ take_rest bytes at
+
+-- the number that an iterator gives, or 0, and what is left
+taken : (s t : Iter ℕ) (r : Option (Bor ℕ)) (q : Option ℕ) (code : ℕ) → iter_steps s r t → q ≡ option_map (λ y. y.now) r → code ≡ unwrap_or q 0 → (code ≡ get_or (iter_rest s) 0 0) × (iter_rest t ≡ drop 1 (iter_rest s))
+taken s t None q code step copied e =
+    let none : iter_rest s ≡ [] = nil_from_length (iter_rest s) step.0 in
+    (e ∙ ap (λ o. unwrap_or o 0) copied ∙ sym (ap (λ (xs : List ℕ). get_or xs 0 0) none), ap iter_rest step.1 ∙ none ∙ sym (ap (drop 1) none))
+taken s t (Some x) q code step copied e =
+    (e ∙ ap (λ o. unwrap_or o 0) copied ∙ sym (ap (λ (xs : List ℕ). get_or xs 0 0) step), sym (ap (drop 1) step))
+
+-- what the next of the bytes behind a place is, or 0 where there is none, and what is left
+pub next_code : (bytes : List ℕ) (place : ℕ) (s t : Iter ℕ) (r : Option (Bor ℕ)) (q : Option ℕ) (code : ℕ) → iter_rest s ≡ drop place bytes → iter_steps s r t → q ≡ option_map (λ y. y.now) r → code ≡ unwrap_or q 0
+    → (code ≡ byte bytes place) × (iter_rest t ≡ drop (place + 1) bytes)
+next_code bytes place s t r q code is step copied e =
+    let here : byte bytes place ≡ get_or (iter_rest s) 0 0 =
+    let same : place ≡ place + 0 = omega arith in
+    ap (λ (k : ℕ). byte bytes k) same ∙ sym (get_or-drop place bytes 0 0) ∙ ap (λ (xs : List ℕ). get_or xs 0 0) (sym is) in
+    let left : drop (place + 1) bytes ≡ drop 1 (iter_rest s) = sym (drop-drop 1 place bytes) ∙ ap (drop 1) (sym is) in
+    let took = taken s t r q code step copied e in
+    (took.0 ∙ sym here, took.1 ∙ sym left)
+
 -- a product by its equation and its multiplier
 pub product_is : {F : Type 0} (n d : ℕ) (eqs : List (List (Term F))) (k c : ℕ) (m : List ℕ) → c ≡ count n d → m ≡ monomial_at n d (k % c) → times m (get_or eqs (k / c) []) ≡ product n d eqs k
 unfolding product
@@ -37,6 +66,37 @@ module _ {F : Type 0} {o : Ops F} (laws : Laws o) where
         let no = ne_eqb r 0 e in
         ap o.code (cond-false (eqb r 0) o.one o.zero no) ∙ laws.code_zero ∙ sym (cond-false (eqb r 0) 1 0 no)
   ]
+
+  -- whether an element has the code of the one that stands in its row of the polynomial one
+  abbrev pub row_test : ℕ × F → Bool
+  row_test p = eqb (o.code p.1) (cond (eqb p.0 0) 1 0)
+
+  row_decides : (r : ℕ) (x : F) → Decides (row_test (r, x)) (x ≡ target o r)
+  row_decides r x = (
+    (λ t. laws.code_same x (target o r) (eqb-true (o.code x) (cond (eqb r 0) 1 0) t ∙ sym (target_code r))),
+    λ e. eq-eqb (o.code x) (cond (eqb r 0) 1 0) (ap o.code e ∙ target_code r),
+  )
+
+  row_first : (n : ℕ) (x : F) (xs : List F) → x ≡ target o n → ((r : ℕ) → r < length xs → get_or xs r o.zero ≡ target o (n + 1 + r)) → (r : ℕ) → r < length (x ∷ xs) → get_or (x ∷ xs) r o.zero ≡ target o (n + r)
+  row_first n x xs e rest zero h = let same : n ≡ n + 0 = omega arith in e ∙ ap (target o) same
+  row_first n x xs e rest (suc r) h = let same : n + 1 + r ≡ n + suc r = omega arith in rest r (omega (arith, h)) ∙ ap (target o) same
+
+  pub rows_decide : (n : ℕ) (xs : List F) → Decides (list_all row_test (enumerate_from n xs)) ((r : ℕ) → r < length xs → get_or xs r o.zero ≡ target o (n + r))
+  rows_decide n [] = ((λ e r h. absurd (omega (arith, h))), λ h. refl)
+  rows_decide n (x ∷ xs) =
+      let here = row_decides n x in
+      let rest = rows_decide (n + 1) xs in
+      let more = list_all row_test (enumerate_from (n + 1) xs) in
+      elim (cases_Bool (row_test (n, x))) [
+        | inl t ↦ (
+          (λ e. row_first n x xs (here.0 t) (rest.0 (sym (ap (λ (b : Bool). b && more) t) ∙ e))),
+          λ h. ap (λ (b : Bool). b && more) t ∙ rest.1 (λ r l. let same : n + suc r ≡ n + 1 + r = omega arith in h (suc r) (omega (arith, l)) ∙ ap (target o) same),
+        )
+        | inr f ↦ (
+          (λ e. absurd (false≢true (sym (ap (λ (b : Bool). b && more) f) ∙ e))),
+          λ h. let same : n + 0 ≡ n = omega arith in absurd (false≢true (sym f ∙ here.1 (h 0 (omega arith) ∙ ap (target o) same))),
+        )
+      ]
 
   module _ (n d : ℕ) (eqs : List (List (Term F))) (bytes : List ℕ) where
     pub totals_none : (xs : List F) → ((k : ℕ) → k < count n (d + 3) → get_or xs k o.zero ≡ o.zero) → Totals o n d eqs bytes 0 xs

@@ -1,5 +1,5 @@
 -- The terms of a product: their exponents fit a byte, and their monomials have a rank. Assumes nothing.
-use Rattle.std.proofs.Common.{◌≡◌, ℕ, zero, suc, ◌+◌, ◌-◌, ◌<◌, ◌≤◌, List, [], ◌∷◌, length, get_or, take, Some, sym, ap, ◌∙◌, subst, arith, length-take}
+use Rattle.std.proofs.Common.{◌≡◌, ℕ, zero, suc, ◌+◌, ◌<◌, ◌≤◌, List, [], ◌∷◌, length, get_or, take, Some, sym, ap, ◌∙◌, subst, arith, length-take}
 use Rattle.fields.specs.Field.{Ops}
 use Rattle.coloring.specs.Encoding.{Sound}
 use Rattle.monomials.specs.Choose.{choose}
@@ -31,10 +31,10 @@ byte_sums n d m f low a b i = omega (arith, place_below m i, place_below f i, a.
 
 -- the first n exponents have a rank, which is a row
 pub row_of : (n d v : ℕ) (m : List ℕ) → v ≡ n → n ≤ 24 → d ≤ 48 → count n (d + 3) ≤ 1000000 → Monomial n (d + 3) m
-    → (rank_for (take (v - 0) m) ≡ Some (rank_of (take n m))) × (rank_of (take n m) < count n (d + 3))
+    → (rank_for (take v m) ≡ Some (rank_of (take n m))) × (rank_of (take n m) < count n (d + 3))
 row_of n d v m e few low small a =
     let cut : length (take n m) ≡ n = length-take n m ∙ omega (arith, a.long) in
-    let same : v - 0 ≡ n = omega arith in
+    let same : v ≡ n = e in
     let most : degree (take n m) ≤ d + 3 = omega (arith, degree_take n m, a.most) in
     let few-cut : length (take n m) ≤ 24 = omega (arith, cut) in
     let narrow : length (take n m) + (d + 3) ≤ 75 = omega (arith, cut) in

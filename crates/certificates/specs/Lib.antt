@@ -1,6 +1,7 @@
 pub mod Refusals
 pub mod Verdicts
 pub mod Sizes
+pub mod System
 pub mod Measures
 pub mod Matrix
 pub mod Outcome

@@ -6,10 +6,11 @@ ghost use Rattle.certificates.specs.Grounds.{First, Clear};
 ghost use Rattle.certificates.specs.Checking.{degree_of, heads, checking, Admitted, Checks};
 
 use crate::matrix::search::wipe;
-use crate::matrix::sum::{is_one, sum};
+use crate::matrix::sum::is_one;
 use crate::reading::{bad_code, byte_at, marked_past, marks};
 use crate::refusal::Refusal;
 use crate::sizes::{LAST_DEGREE, Sizes, measure};
+use crate::system::System;
 use coloring::encoding::Encoding;
 use fields::Field;
 use graphs::Graph;
@@ -25,10 +26,10 @@ fn head(order: u8, vertices: u8, equations: usize, certificate: &[u8]) -> Result
     if certificate.len() < HEAD || form != FORM || degree < 1 || degree > LAST_DEGREE {
         return Err(Refusal::MalformedHead);
     }
-    let count = byte_at(certificate, 4) as usize * 256 + byte_at(certificate, 5) as usize;
+    let count = u16::from_be_bytes([byte_at(certificate, 4), byte_at(certificate, 5)]);
     if byte_at(certificate, 1) != order
         || byte_at(certificate, 2) != vertices
-        || count != equations
+        || usize::from(count) != equations
     {
         return Err(Refusal::OtherSolver);
     }
@@ -47,9 +48,7 @@ fn admit<E: Encoding>(
 {
     let order = <E::Coeff as Field>::order();
     let degree = head(order, graph.vertices(), encoding.count(graph), certificate)?;
-    let Some(sizes) = measure(encoding, graph, degree) else {
-        return Err(Refusal::TooLarge);
-    };
+    let sizes = measure(encoding, graph, degree).ok_or(Refusal::TooLarge)?;
     let products = sizes.products;
     if certificate.len() != HEAD + sizes.map + marks(certificate, products) {
         return Err(Refusal::WrongLength);
@@ -76,8 +75,13 @@ pub fn check<E: Encoding>(
 {
     let sizes = admit(encoding, graph, certificate, table.len())?;
     let rows = sizes.rows;
-    sum(encoding, graph, sizes, certificate, table);
-    let one = is_one(&table[0..rows]);
+    let system = System {
+        encoding,
+        graph,
+        sizes,
+    };
+    system.sum(certificate, table);
+    let one = is_one(&table[..rows]);
     wipe(table, rows, 1);
     if one { Ok(()) } else { Err(Refusal::NotOne) }
 }

@@ -7,6 +7,7 @@ mod matrix;
 mod reading;
 pub mod refusal;
 pub mod sizes;
+mod system;
 pub mod verdict;
 
 pub use checking::check;

@@ -1,6 +1,6 @@
 // Reading the bytes of a certificate: the bits of its map, how many stand, and whether a bit or a code stands where none may.
 // A place past the end reads as zero, so that every question has an answer whatever the bytes.
-ghost use Rattle.std.specs.Prelude.{◌≡◌, ◌≤◌, Decides};
+ghost use Rattle.std.specs.Prelude.{◌≡◌, ◌≤◌, ◌↔◌, IsTrue};
 ghost use Rattle.layout.specs.Reading.{byte, stands, before};
 ghost use Rattle.certificates.specs.Checking.{BitPast, BadCode};
 
@@ -10,11 +10,7 @@ use layout::HEAD;
 pub(crate) fn byte_at(certificate: &[u8], place: usize) -> u8
     ensures { result ≡ byte certificate.now place }
 {
-    if place < certificate.len() {
-        certificate[place]
-    } else {
-        0
-    }
+    certificate.get(place).copied().unwrap_or(0)
 }
 
 // Whether the map says that a product has a coefficient that is not zero.
@@ -28,38 +24,26 @@ pub(crate) fn marked(certificate: &[u8], product: usize) -> bool
 pub(crate) fn marks(certificate: &[u8], products: usize) -> usize
     ensures { result ≡ before certificate.now products }
 {
-    let mut count = 0;
-    for product in 0..products {
-        if marked(certificate, product) {
-            count += 1;
-        }
-    }
-    count
+    (0..products)
+        .filter(|product| marked(certificate, *product))
+        .count()
 }
 
 // Whether a bit of the map that is no product's stands.
 pub(crate) fn marked_past(certificate: &[u8], products: usize) -> bool
     requires { products ≤ 1000000 }
-    ensures { Decides result (BitPast products certificate.now) }
+    ensures { IsTrue result ↔ BitPast products certificate.now }
 {
-    for product in products..8 * ((products + 7) / 8) {
-        if marked(certificate, product) {
-            return true;
-        }
-    }
-    false
+    (products..8 * products.div_ceil(8)).any(|product| marked(certificate, product))
 }
 
 // Whether a byte behind the map is 0 or no code of a field of so many elements.
 pub(crate) fn bad_code(certificate: &[u8], products: usize, order: u8) -> bool
     requires { products ≤ 1000000 }
-    ensures { Decides result (BadCode order products certificate.now) }
+    ensures { IsTrue result ↔ BadCode order products certificate.now }
 {
-    for place in HEAD + (products + 7) / 8..certificate.len() {
-        let code = certificate[place];
-        if code == 0 || code >= order {
-            return true;
-        }
-    }
-    false
+    certificate
+        .iter()
+        .skip(HEAD + products.div_ceil(8))
+        .any(|&code| code == 0 || code >= order)
 }

@@ -1,9 +1,12 @@
 // Why a call is refused. Each ground has a number, which stands in texts and in what C sees.
-ghost use Rattle.std.specs.Prelude.{◌≡◌};
+ghost use Rattle.std.specs.Prelude.{◌≡◌, Some, decimal};
 ghost use Rattle.certificates.specs.Refusals.{number_of};
 
+use std::error::Error;
+use std::fmt;
+
 /// The ground on which a call is refused.
-#[derive(Clone, Copy)]
+#[derive(Clone, Copy, Debug, PartialEq, Eq, Hash)]
 pub enum Refusal {
     /// A vertex number above 23, or a degree that is not 1 to 48.
     OutOfRange = 1,
@@ -51,3 +54,21 @@ impl Refusal {
         self as u8
     }
 }
+
+impl From<Refusal> for u8 {
+    ghost from_gives = { λ refusal number. number ≡ number_of refusal };
+
+    fn from(refusal: Refusal) -> u8 {
+        refusal.number()
+    }
+}
+
+impl fmt::Display for Refusal {
+    ghost output = { λ refusal. Some (decimal (number_of refusal)) };
+
+    fn fmt<W: fmt::Write>(&self, f: &mut fmt::Formatter<W>) -> fmt::Result {
+        write!(f, "{}", self.number())
+    }
+}
+
+impl Error for Refusal {}

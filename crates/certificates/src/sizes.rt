@@ -20,7 +20,7 @@ const LIMIT: usize = 1_000_000;
 pub(crate) const LAST_DEGREE: u8 = 48;
 
 /// The sizes of the matrix of a degree.
-#[derive(Clone, Copy)]
+#[derive(Clone, Copy, Debug, PartialEq, Eq, Hash)]
 pub struct Sizes {
     pub vertices: u8,
     pub degree: u8,
@@ -36,18 +36,15 @@ pub struct Sizes {
     pub bytes: usize,
 }
 
-// The sizes, where neither rows nor products pass the limit.
+// The sizes, where neither rows nor products pass the limit. Encoding and graph are a solver's own, each behind a loan, until a `System` has
+// their sizes too.
 pub(crate) fn measure<E: Encoding>(encoding: &E, graph: &Graph, degree: u8) -> Option<Sizes>
     requires { degree ≤ 48 }
     ensures { MatchOption result (Excess (length (over (E.lists encoding.now) graph.now)) graph.now.vertices degree) (λ z. Measured (length (over (E.lists encoding.now) graph.now)) graph.now.vertices degree z) }
 {
     let vertices = graph.vertices();
-    let Some(rows) = monomials::count(vertices as usize, degree as usize + EQUATION_DEGREE) else {
-        return None;
-    };
-    let Some(multipliers) = monomials::count(vertices as usize, degree as usize) else {
-        return None;
-    };
+    let rows = monomials::count(vertices as usize, degree as usize + EQUATION_DEGREE)?;
+    let multipliers = monomials::count(vertices as usize, degree as usize)?;
     if rows > LIMIT {
         return None;
     }
@@ -56,7 +53,7 @@ pub(crate) fn measure<E: Encoding>(encoding: &E, graph: &Graph, degree: u8) -> O
     if products > LIMIT {
         return None;
     }
-    let map = (products + 7) / 8;
+    let map = products.div_ceil(8);
     Some(Sizes {
         vertices,
         degree,
@@ -84,9 +81,7 @@ pub fn fit<E: Encoding>(
     if degree > LAST_DEGREE {
         return Err(Refusal::LastDegree);
     }
-    let Some(sizes) = measure(encoding, graph, degree) else {
-        return Err(Refusal::TooLarge);
-    };
+    let sizes = measure(encoding, graph, degree).ok_or(Refusal::TooLarge)?;
     if elements < sizes.cells {
         return Err(Refusal::TableTooSmall);
     }

@@ -1,7 +1,7 @@
 -- A solver with the memory that it is lent, and one line answered on two of them. Assumes nothing.
 use Rattle.std.specs.Prelude.{◌≡◌, ℕ, List, vec_items}
 use Rattle.fields.specs.Field.{Ops}
-use Rattle.nulla.specs.declared.reply.Reply.{Reply}
+use Rattle.nulla.specs.Replies.{Reply}
 use Rattle.nulla.specs.State.{state_of, fresh}
 use Rattle.certificates.specs.Outcome.{Memory, memory}
 use Rattle.nulla.specs.Steps.{Lists}

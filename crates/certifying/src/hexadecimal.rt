@@ -1,23 +1,8 @@
 // Bytes as hexadecimal digits, so that a certificate can be read, compared and copied as text.
-ghost use Rattle.std.specs.Prelude.{◌≡◌, ◌<◌, IfOk, string_bytes};
-ghost use Rattle.certifying.specs.Hexadecimal.{digit_of, hex_of};
+ghost use Rattle.std.specs.Prelude.{◌≡◌, IfOk, string_bytes};
+ghost use Rattle.certifying.specs.Hexadecimal.{hex_of};
 
 use std::alloc::{AllocError, Global};
-
-const TEN: u8 = 10;
-
-const SIXTEEN: u8 = 16;
-
-fn digit(value: u8) -> char
-    requires { value < 16 }
-    ensures { result ≡ digit_of value }
-{
-    if value < TEN {
-        char::from(b'0' + value)
-    } else {
-        char::from(b'A' + (value - TEN))
-    }
-}
 
 /// Two upper-case digits for each byte, without spaces.
 pub fn hexadecimal(heap: Global, bytes: &[u8]) -> Result<String, AllocError>
@@ -25,8 +10,7 @@ pub fn hexadecimal(heap: Global, bytes: &[u8]) -> Result<String, AllocError>
 {
     let mut text = String::new(heap);
     for byte in bytes {
-        text.push(digit(*byte / SIXTEEN))?;
-        text.push(digit(*byte % SIXTEEN))?;
+        write!(text, "{byte:02X}")?;
     }
     Ok(text)
 }

@@ -5,7 +5,7 @@ use Rattle.std.proofs.ByRecursion.{All-append, All-get_or, All-map, All-weaker}
 use Rattle.std.proofs.lemmas.Bool.{cases_eq, cond_both, and_parts, ltb-true}
 use Rattle.std.specs.List.{AllByRecursion}
 use Rattle.fields.specs.Field.{Ops, Laws}
-use Rattle.coloring.specs.declared.pairs.Pair.{Pair}
+use Rattle.coloring.specs.Pairs.{Pair}
 use Rattle.polynomials.specs.declared.term.Term.{Term}
 use Rattle.coloring.specs.Pairs.{upto, two, pair, row, pairs}
 use Rattle.coloring.specs.Equations.{mono, cube, cubes, edge, plain}
@@ -60,7 +60,7 @@ module _ (f : ℕ → ℕ → Bool) where
       (λ e. let w = ltb-true i j (and_parts (nat_lt i j) (f i j) e).0 in omega (arith, w))
       (λ e. omega arith)
 
-  row_few : (i m : ℕ) → length (upto (pair f i) m) ≤ m - (i + 1)
+  pub row_few : (i m : ℕ) → length (upto (pair f i) m) ≤ m - (i + 1)
   row_few i zero = omega arith
   row_few i (suc m) = let r = row_few i m in omega (arith, length-append (upto (pair f i) m) (pair f i m), pair_few i m, r)
 

@@ -2,9 +2,9 @@
 -- left side. A color is a third root of one: v^3 + 1 = 0 says that v is one, and two roots are different
 -- exactly where v^2 + vw + w^2 = 0. Assumes nothing.
 use Rattle.std.specs.Prelude.{ℕ, Bool, List, [], ◌∷◌, ◌++◌, map, slice_set}
-use Rattle.coloring.specs.declared.pairs.Pair.{Pair}
+use Rattle.coloring.specs.Pairs.{Pair}
 use Rattle.polynomials.specs.declared.term.Term.{Term}
-use Rattle.coloring.specs.declared.triangles.Triangle.{Triangle}
+use Rattle.coloring.specs.Three.{Three as Triangle}
 use Rattle.coloring.specs.Pairs.{upto, pairs}
 use Rattle.polynomials.specs.Polynomial.{zeros}
 use Rattle.coloring.specs.Triangles.{chosen}

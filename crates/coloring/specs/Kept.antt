@@ -6,7 +6,7 @@ use Rattle.std.proofs.lemmas.List.{get_or-map, length-map}
 use Rattle.std.proofs.lemmas.Bool.{cases_eq}
 use Rattle.std.specs.List.{ContainsAt as Has, AllByRecursion}
 use Rattle.fields.specs.Field.{Ops, Laws}
-use Rattle.coloring.specs.declared.pairs.Pair.{Pair}
+use Rattle.coloring.specs.Pairs.{Pair}
 use Rattle.polynomials.specs.declared.term.Term.{Term}
 use Rattle.coloring.specs.Coloring.{Color, Proper}
 use Rattle.coloring.specs.Encoding.{Joins, Lawful}

@@ -1,5 +1,6 @@
 pub mod Absent
 pub mod Pairs
+pub mod Three
 pub mod Triangles
 pub mod Equations
 pub mod Coloring
@@ -10,6 +11,7 @@ pub mod Bounds
 pub mod Exponents
 pub mod Reading
 pub mod Upto
+pub mod Tally
 pub mod Kept
 pub mod Numbering
 pub mod RootsLemmas

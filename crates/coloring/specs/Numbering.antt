@@ -1,8 +1,9 @@
 -- The numbering of joined pairs: how many there are before a pair, and which one has a number.
 use Rattle.std.specs.Prelude.{◌≡◌, ℕ, ◌+◌, ◌<◌, ◌≤◌, Bool, true, false, List, [], ◌∷◌, ◌++◌, length, Some, nat_lt}
+use Rattle.std.specs.List.{slice_get}
 use Rattle.std.proofs.Common.{ap, ◌∙◌, append_assoc, append-nil, arith, length-append, lt-ltb, le-ltb}
-use Rattle.coloring.specs.declared.pairs.Pair.{Pair}
-use Rattle.coloring.specs.Pairs.{at, upto, two, pair, row, pairs}
+use Rattle.coloring.specs.Pairs.{Pair}
+use Rattle.coloring.specs.Pairs.{upto, two, pair, row, pairs}
 use Rattle.coloring.specs.Upto.{upto_more, upto_none, upto_split, at_middle}
 
 module _ (f : ℕ → ℕ → Bool) where
@@ -27,7 +28,7 @@ module _ (f : ℕ → ℕ → Bool) where
   pub rows_more : (n i : ℕ) → length (upto (row f n) (i + 1)) ≡ length (upto (row f n) i) + length (upto (pair f i) n)
   rows_more n i = ap length (upto_more (row f n) i) ∙ length-append (upto (row f n) i) _
 
-  pub pair_found : (n i j w : ℕ) → i < j → j < n → f i j ≡ true → w ≡ length (upto (row f n) i) + length (upto (pair f i) j) → at (pairs f n) w ≡ Some (two i j)
+  pub pair_found : (n i j w : ℕ) → i < j → j < n → f i j ≡ true → w ≡ length (upto (row f n) i) + length (upto (pair f i) j) → slice_get (pairs f n) w ≡ Some (two i j)
   pair_found n i j w a d s e =
       let s1 = upto_split (row f n) i n (omega arith) in
       let s2 = upto_split (pair f i) j n d in
@@ -36,5 +37,5 @@ module _ (f : ℕ → ℕ → Bool) where
       let e2 : row f n i ≡ q ++ ((two i j ∷ []) ++ s2.0) = s2.1 ∙ ap (λ (z : List Pair). q ++ (z ++ s2.0)) (pair_there i j a s) in
       let e1 : pairs f n ≡ p ++ ((q ++ ((two i j ∷ []) ++ s2.0)) ++ s1.0) = s1.1 ∙ ap (λ (z : List Pair). p ++ (z ++ s1.0)) e2 in
       let e0 : p ++ ((q ++ ((two i j ∷ []) ++ s2.0)) ++ s1.0) ≡ (p ++ q) ++ (two i j ∷ (s2.0 ++ s1.0)) = simp append_assoc in
-      ap (λ (z : List Pair). at z w) (e1 ∙ e0) ∙
+      ap (λ (z : List Pair). slice_get z w) (e1 ∙ e0) ∙
       at_middle (p ++ q) (two i j) _ w (omega (arith, length-append p q, e))

@@ -1,13 +1,16 @@
 -- The joined pairs of vertices of a graph in order, which is their numbering. A graph is given by which pairs are joined,
 -- f, and by the number of its vertices, n. Assumes nothing.
-use Rattle.std.specs.Prelude.{ℕ, zero, suc, Bool, cond, ◌&&◌, List, [], ◌∷◌, ◌++◌, Some, None, Option, nat_lt}
-use Rattle.coloring.specs.declared.pairs.Pair.{Pair}
+use Rattle.std.specs.Prelude.{ℕ, zero, suc, Bool, cond, ◌&&◌, List, [], ◌∷◌, ◌++◌, nat_lt}
+use Rattle.graphs.specs.declared.edge.Edge.{Edge}
 
--- what is at a place of a list, if anything
-abbrev pub at : {A : Type 0} → List A → ℕ → Option A
-at [] k = None
-at (x ∷ xs) zero = Some x
-at (x ∷ xs) (suc k) = at xs k
+-- two vertices, the lower first
+pub record Pair : Type 0 where
+  pub low : ℕ
+  pub high : ℕ
+
+-- the two ends of an edge
+abbrev pub ends : Edge → Pair
+ends e = record { low = e.lower; high = e.higher }
 
 -- the lists of the numbers below n, one after the other
 abbrev pub upto : {A : Type 0} → (ℕ → List A) → ℕ → List A

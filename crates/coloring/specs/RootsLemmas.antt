@@ -4,8 +4,8 @@ use Rattle.std.proofs.Common.{sym, ap, ◌∙◌, arith}
 use Rattle.fields.specs.Bit.{bit_ops}
 use Rattle.fields.specs.Field.{Ops, Laws}
 use Rattle.fields.specs.declared.bit.Bit.{Bit}
-use Rattle.coloring.specs.declared.pairs.Pair.{Pair}
-use Rattle.coloring.specs.declared.triangles.Triangle.{Triangle}
+use Rattle.coloring.specs.Pairs.{Pair}
+use Rattle.coloring.specs.Three.{Three as Triangle}
 use Rattle.coloring.specs.Coloring.{Color, first, second, third}
 use Rattle.coloring.specs.Equations.{cube, edge, squares}
 use Rattle.coloring.specs.Roots.{root}

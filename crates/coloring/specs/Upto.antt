@@ -1,16 +1,15 @@
 -- A run of lists, one for each number below n: its start, its next step, where one of its lists begins, and what holds of all of it.
-use Rattle.std.specs.Prelude.{◌≡◌, ℕ, zero, suc, ◌+◌, ◌<◌, ◌≤◌, List, [], ◌∷◌, ◌++◌, map, length, Some, None, Option, ◌≢◌, slice_index_or, refl}
+use Rattle.std.specs.Prelude.{◌≡◌, ℕ, zero, suc, ◌+◌, ◌<◌, List, [], ◌∷◌, ◌++◌, map, length, get_or, Some, None, option_map, unwrap_or, slice_index_or, refl}
 use Rattle.std.proofs.Common.{sym, ap, subst, ◌∙◌, ⊎_elim, append_assoc, append-nil, add-one, arith, length-append}
 use Rattle.std.proofs.ByRecursion.{All-append}
 use Rattle.std.proofs.lemmas.Bool.{cases_eq}
-use Rattle.std.specs.List.{AllByRecursion}
-use Rattle.coloring.specs.Pairs.{at, upto}
+use Rattle.std.proofs.lemmas.Option.{get_or_from_slice_get, slice_get-map, slice_get_read, unwrap_or-slice_get}
+use Rattle.std.proofs.Math.Seq.{get_or-append_seam}
+use Rattle.std.specs.List.{slice_get, AllByRecursion}
+use Rattle.coloring.specs.Pairs.{upto}
 
 not_below : {n : ℕ} → n < 0 → ⊥
 not_below h = omega arith
-
-never_zero : (k : ℕ) → suc k ≢ 0
-never_zero k e = omega (arith, e)
 
 module _ {A : Type 0} where
   pub upto_more : (g : ℕ → List A) (i : ℕ) → upto g (i + 1) ≡ upto g i ++ g i
@@ -45,30 +44,14 @@ module _ {A : Type 0} where
   all_upto P g zero h = tt
   all_upto P g (suc n) h = All-append P (upto g n) (g n) (all_upto P g n (λ k l. h k (omega arith))) (h n (omega arith))
 
-  pub at_middle : (xs : List A) (y : A) (ys : List A) (k : ℕ) → k ≡ length xs → at (xs ++ (y ∷ ys)) k ≡ Some y
-  at_middle [] y ys zero e = refl
-  at_middle [] y ys (suc k) e = absurd (never_zero k e)
-  at_middle (x ∷ xs) y ys zero e = absurd (never_zero (length xs) (sym e))
-  at_middle (x ∷ xs) y ys (suc k) e = at_middle xs y ys k (omega (arith, e))
-
-  pub at_past : (xs : List A) (k : ℕ) → length xs ≤ k → at xs k ≡ None
-  at_past [] k h = refl
-  at_past (x ∷ xs) zero h = absurd (not_below h)
-  at_past (x ∷ xs) (suc k) h = at_past xs k (omega (arith, h))
+  pub at_middle : (xs : List A) (y : A) (ys : List A) (k : ℕ) → k ≡ length xs → slice_get (xs ++ (y ∷ ys)) k ≡ Some y
+  at_middle xs y ys k e =
+      slice_get_read (xs ++ (y ∷ ys)) (length (xs ++ (y ∷ ys))) k y refl (omega (arith, length-append xs (y ∷ ys), e))
+      (sym (ap (λ (m : ℕ). get_or (xs ++ (y ∷ ys)) m y) e ∙ get_or-append_seam xs y ys y))
 
   -- what a place has, through a function; and where a list has nothing
-  pub at_map : {B : Type 0} (f : A → B) (xs : List A) (k : ℕ) (x : A) (d : B) → at xs k ≡ Some x → slice_index_or (map f xs) k d ≡ f x
-  at_map f [] k x d e = absurd (never x e)
-    where
-      never : (x : A) → ◌≡◌ {A = Option A} None (Some x) → ⊥
-      never x e = let z : ◌≡◌ {A = ℕ} 0 1 = cc in omega arith
-  at_map f (y ∷ ys) zero x d e = let q : y ≡ x = cc in ap f q
-  at_map f (y ∷ ys) (suc k) x d e = at_map f ys k x d e
+  pub at_map : {B : Type 0} (f : A → B) (xs : List A) (k : ℕ) (x : A) (d : B) → slice_get xs k ≡ Some x → slice_index_or (map f xs) k d ≡ f x
+  at_map f xs k x d e = get_or_from_slice_get (map f xs) k (f x) d (slice_get-map f xs k ∙ ap (option_map f) e)
 
-  pub at_none : {B : Type 0} (f : A → B) (xs : List A) (k : ℕ) (d : B) → at xs k ≡ None → slice_index_or (map f xs) k d ≡ d
-  at_none f [] k d e = refl
-  at_none f (y ∷ ys) zero d e = absurd (never y e)
-    where
-      never : (x : A) → ◌≡◌ {A = Option A} (Some x) None → ⊥
-      never x e = let z : ◌≡◌ {A = ℕ} 0 1 = cc in omega arith
-  at_none f (y ∷ ys) (suc k) d e = at_none f ys k d e
+  pub at_none : {B : Type 0} (f : A → B) (xs : List A) (k : ℕ) (d : B) → slice_get xs k ≡ None → slice_index_or (map f xs) k d ≡ d
+  at_none f xs k d e = sym (unwrap_or-slice_get (map f xs) k d) ∙ ap (λ o. unwrap_or o d) (slice_get-map f xs k ∙ ap (option_map f) e)

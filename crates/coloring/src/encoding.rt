@@ -51,7 +51,7 @@ fn power(i: u8, exponent: u8) -> [u8; 24]
     ensures { result ≡ slice_set zeros i exponent }
 {
     let mut exponents = [0; 24];
-    exponents[i as usize] = exponent;
+    exponents[usize::from(i)] = exponent;
     exponents
 }
 
@@ -61,7 +61,7 @@ fn product(i: u8, j: u8) -> [u8; 24]
     ensures { result ≡ slice_set (slice_set zeros i 1) j 1 }
 {
     let mut exponents = power(i, 1);
-    exponents[j as usize] = 1;
+    exponents[usize::from(j)] = 1;
     exponents
 }
 
@@ -75,7 +75,7 @@ fn monomial<F: Field>(exponents: [u8; 24]) -> Term<F>
     }
 }
 
-/// The term where there is none.
+/// The term where there is none: past the end every question of an encoding has an answer, so that no caller owes a bound.
 fn no_term<F: Field>() -> Term<F>
     ensures { result ≡ absent F.ops }
 {

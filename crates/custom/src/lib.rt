@@ -2,7 +2,7 @@
 // the trait, and every solver then works with it.
 #![tactic(auto)]
 
-ghost use Rattle.std.specs.Prelude.{◌≡◌, ◌*◌, [], length};
+ghost use Rattle.std.specs.Prelude.{◌≡◌, ◌*◌, [], length, slice_index_or};
 ghost use Rattle.coloring.specs.Encoding.{over};
 ghost use Rattle.coloring.specs.Equations.{plain};
 ghost use Rattle.custom.specs.Repeated.{twice};
@@ -18,7 +18,7 @@ use graphs::Graph;
 use polynomials::Term;
 
 /// Every plain equation, and then every one again.
-#[derive(Copy, Clone)]
+#[derive(Clone, Copy, Debug, PartialEq, Eq, Hash)]
 pub struct Repeated<F> {
     plain: Plain<F>,
 }
@@ -31,6 +31,27 @@ impl<F: Field> Repeated<F> {
         Repeated {
             plain: Plain::new(),
         }
+    }
+
+    /// The number of the plain equation that is listed there.
+    fn once(&self, graph: &Graph, equation: usize) -> usize
+        ensures { slice_index_or (over (plain F.ops.one) graph.now) result [] ≡ slice_index_or (over (twice (plain F.ops.one)) graph.now) equation [] }
+    {
+        let count = self.plain.count(graph);
+        if equation < count {
+            equation
+        } else {
+            equation - count
+        }
+    }
+}
+
+// A derive would ask a `Default` of the field.
+impl<F: Field> Default for Repeated<F> {
+    ghost is_default = { λ r. r ≡ record { plain = record { field = record {} } } };
+
+    fn default() -> Repeated<F> {
+        Repeated::new()
     }
 }
 
@@ -54,20 +75,10 @@ impl<F: Field> Encoding for Repeated<F> {
     }
 
     fn terms(&self, graph: &Graph, equation: usize) -> usize {
-        let once = self.plain.count(graph);
-        if equation < once {
-            self.plain.terms(graph, equation)
-        } else {
-            self.plain.terms(graph, equation - once)
-        }
+        self.plain.terms(graph, self.once(graph, equation))
     }
 
     fn term(&self, graph: &Graph, equation: usize, index: usize) -> Term<F> {
-        let once = self.plain.count(graph);
-        if equation < once {
-            self.plain.term(graph, equation, index)
-        } else {
-            self.plain.term(graph, equation - once, index)
-        }
+        self.plain.term(graph, self.once(graph, equation), index)
     }
 }

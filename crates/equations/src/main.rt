@@ -45,70 +45,73 @@ fn one_edge() -> Graph {
     graph
 }
 
-fn show_term<E: Encoding>(
-    rt: HostRuntime,
-    encoding: &E,
-    graph: &Graph,
-    equation: usize,
-    index: usize,
-) -> io::Result<()> {
-    let term = encoding.term(graph, equation, index);
-    let code = term.coeff.code();
-    let exponents = term.exponents;
-    let used = &exponents[0..graph.vertices() as usize];
-    print!(rt; " {code} {used:?}")
+// The equations of one graph, and the name of their encoding.
+#[derive(Clone, Copy)]
+struct Listing<'a, E> {
+    name: &'a str,
+    encoding: E,
+    graph: &'a Graph,
 }
 
-fn show_equation<E: Encoding>(
-    rt: HostRuntime,
-    encoding: &E,
-    graph: &Graph,
-    equation: usize,
-) -> io::Result<()> {
-    print!(rt; "  {equation}:")?;
-    for index in 0..encoding.terms(graph, equation) {
-        show_term(rt, encoding, graph, equation, index)?;
+impl<E: Encoding + Copy> Listing<'_, E> {
+    fn show_term(&self, rt: HostRuntime, equation: usize, index: usize) -> io::Result<()> {
+        let term = self.encoding.term(self.graph, equation, index);
+        let code = term.coeff.code();
+        let exponents = term.exponents;
+        let used = &exponents[..usize::from(self.graph.vertices())];
+        print!(rt; " {code} {used:?}")
     }
-    println!(rt; "")
-}
 
-fn show_counts<E: Encoding>(
-    rt: HostRuntime,
-    name: &str,
-    encoding: &E,
-    graph: &Graph,
-) -> io::Result<()> {
-    let vertices = graph.vertices();
-    let count = encoding.count(graph);
-    let most = encoding.most();
-    println!(rt; "{name}, {vertices} vertices: {count} equations of at most {most}")
-}
-
-fn show<E: Encoding>(rt: HostRuntime, name: &str, encoding: &E, graph: &Graph) -> io::Result<()> {
-    show_counts(rt, name, encoding, graph)?;
-    for equation in 0..encoding.count(graph) {
-        show_equation(rt, encoding, graph, equation)?;
+    fn show_equation(&self, rt: HostRuntime, equation: usize) -> io::Result<()> {
+        print!(rt; "  {equation}:")?;
+        for index in 0..self.encoding.terms(self.graph, equation) {
+            self.show_term(rt, equation, index)?;
+        }
+        println!(rt; "")
     }
-    Ok(())
+
+    fn show_counts(&self, rt: HostRuntime) -> io::Result<()> {
+        let name = self.name;
+        let vertices = self.graph.vertices();
+        let count = self.encoding.count(self.graph);
+        let most = self.encoding.most();
+        println!(rt; "{name}, {vertices} vertices: {count} equations of at most {most}")
+    }
+
+    fn show(&self, rt: HostRuntime) -> io::Result<()> {
+        self.show_counts(rt)?;
+        for equation in 0..self.encoding.count(self.graph) {
+            self.show_equation(rt, equation)?;
+        }
+        Ok(())
+    }
 }
 
-fn show_graphs<E: Encoding>(rt: HostRuntime, name: &str, encoding: &E) -> io::Result<()> {
-    show(rt, name, encoding, &empty(0))?;
-    show(rt, name, encoding, &one_edge())?;
-    show(rt, name, encoding, &complete(3))?;
-    show_counts(rt, name, encoding, &complete(LARGEST))
+fn list<'a, E>(name: &'a str, encoding: E, graph: &'a Graph) -> Listing<'a, E> {
+    Listing {
+        name,
+        encoding,
+        graph,
+    }
+}
+
+fn show_graphs<E: Encoding + Copy>(rt: HostRuntime, name: &str, encoding: E) -> io::Result<()> {
+    list(name, encoding, &empty(0)).show(rt)?;
+    list(name, encoding, &one_edge()).show(rt)?;
+    list(name, encoding, &complete(3)).show(rt)?;
+    list(name, encoding, &complete(LARGEST)).show_counts(rt)
 }
 
 fn main(rt: HostRuntime) -> io::Result<()> {
     let bits: Plain<Bit> = Plain::new();
     let four: Plain<Four> = Plain::new();
-    show_graphs(rt, "plain over bits", &bits)?;
-    show_graphs(rt, "plain over four values", &four)?;
-    show_graphs(rt, "triangles over bits", &Triangles::new(bits))?;
-    show_graphs(rt, "triangles over four values", &Triangles::new(four))?;
+    show_graphs(rt, "plain over bits", bits)?;
+    show_graphs(rt, "plain over four values", four)?;
+    show_graphs(rt, "triangles over bits", Triangles::new(bits))?;
+    show_graphs(rt, "triangles over four values", Triangles::new(four))?;
     show_graphs(
         rt,
         "triangles twice over bits",
-        &Triangles::new(Triangles::new(bits)),
+        Triangles::new(Triangles::new(bits)),
     )
 }

@@ -3,7 +3,7 @@ ghost use Rattle.fields.specs.Bit.{bit_ops, bit_laws};
 
 use crate::field::Field;
 
-#[derive(Clone, Copy)]
+#[derive(Clone, Copy, Debug, PartialEq, Eq, Hash)]
 #[repr(C)]
 pub struct Bit {
     set: bool,
@@ -41,7 +41,7 @@ impl Field for Bit {
     }
 
     fn code(self) -> u8 {
-        if self.set { 1 } else { 0 }
+        u8::from(self.set)
     }
 
     fn from_code(code: u8) -> Option<Bit> {

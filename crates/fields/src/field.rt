@@ -1,6 +1,6 @@
 // What a field asks of its elements: the operations as total calls, and their laws as a ghost member,
 // so that every function over a field is proved once from the laws.
-ghost use Rattle.std.specs.Prelude.{◌≡◌, ◌≤◌, MatchOption};
+ghost use Rattle.std.specs.Prelude.{◌≡◌, ◌≤◌, ◌↔◌, IsTrue, MatchOption};
 ghost use Rattle.fields.specs.Field.{Ops, Laws};
 
 pub trait Field: Copy {
@@ -32,6 +32,13 @@ pub trait Field: Copy {
 
     fn from_code(code: u8) -> Option<Self>
         ensures { MatchOption result (ops.size ≤ code) (λ x. ops.code x ≡ code) };
+
+    /// Whether the element is zero.
+    fn is_zero(self) -> bool
+        ensures { IsTrue result ↔ (self ≡ ops.zero) }
+    {
+        self.code() == 0
+    }
 
     /// Ties the constant to the laws, since no clause can cite a constant of a trait.
     fn order() -> u8

@@ -3,7 +3,7 @@ ghost use Rattle.fields.specs.Four.{four_ops, four_laws};
 
 use crate::field::Field;
 
-#[derive(Clone, Copy)]
+#[derive(Clone, Copy, Debug, PartialEq, Eq, Hash)]
 pub struct Four {
     unit: bool,
     alpha: bool,
@@ -68,12 +68,7 @@ impl Field for Four {
     }
 
     fn code(self) -> u8 {
-        match (self.alpha, self.unit) {
-            (false, false) => 0,
-            (false, true) => 1,
-            (true, false) => 2,
-            (true, true) => 3,
-        }
+        2 * u8::from(self.alpha) + u8::from(self.unit)
     }
 
     fn from_code(code: u8) -> Option<Four> {

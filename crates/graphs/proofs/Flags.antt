@@ -1,19 +1,9 @@
 -- What a flag put into the rows of a graph leaves at each place.
-use Rattle.std.proofs.Common.{◌≡◌, ℕ, zero, suc, ◌<◌, ◌≤◌, Bool, false, ◌≢◌, List, length, get_or, replicate, refl, ap, ⊎_elim, arith, get_or-set_other, get_or-set_same}
+use Rattle.std.proofs.Common.{◌≡◌, ℕ, zero, suc, ◌<◌, ◌≤◌, false, List, length, get_or, replicate, refl, ap, ⊎_elim, arith}
 use Rattle.std.proofs.lemmas.List.{get_or_past}
-use Rattle.std.proofs.lemmas.Bool.{cases_eq, cases_lt}
+use Rattle.std.proofs.lemmas.Bool.{cases_lt}
 use Rattle.graphs.specs.declared.graph.Row.{Row}
-use Rattle.graphs.specs.Graph.{blank, flag, put}
-
-pub flag_here : (rows : List Row) (i j : ℕ) (v : Bool) → i < length rows → j < length (get_or rows i blank).above → flag (put rows i j v) i j ≡ v
-flag_here rows i j v h k = rw (get_or-set_same rows i _ blank h) (get_or-set_same (get_or rows i blank).above j v false k)
-
-pub flag_other : (rows : List Row) (i j : ℕ) (v : Bool) (k l : ℕ) → i < length rows → (k ≡ i → l ≡ j → ⊥) → flag (put rows i j v) k l ≡ flag rows k l
-flag_other rows i j v k l h n =
-    ⊎_elim
-    (λ e. let m : l ≢ j = n e in rw (e, get_or-set_same rows i _ blank h, get_or-set_other (get_or rows i blank).above j l v false m))
-    (λ e. ap (λ (r : Row). get_or r.above l false) (get_or-set_other rows i k _ blank e))
-    (cases_eq k i)
+use Rattle.graphs.specs.Graph.{blank, flag}
 
 -- past the rows, and past a row, nothing is joined
 pub flag_outside : (rows : List Row) (i j : ℕ) → length rows ≡ 24 → ((k : ℕ) → k < 24 → length (get_or rows k blank).above ≡ 24) → (i < 24 → 24 ≤ j) → flag rows i j ≡ false

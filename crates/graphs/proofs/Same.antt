@@ -20,10 +20,6 @@ same g h n r j = record {
   wide = is_prop→PathP (λ k. (i : ℕ) → i < 24 → length (get_or (r k) i blank).above ≡ 24) (λ k. Π_prop (λ i. Π_prop (λ h. ℕ_set _ _))) g.wide h.wide j;
 }
 
--- one flag put makes one graph
-pub one_put : (g m h : Graph) (i j : ℕ) (v : Bool) → Put g i j v m → Put g i j v h → m ≡ h
-one_put g m h i j v s t = same m h (s.vertices ∙ sym t.vertices) (s.rows ∙ sym t.rows)
-
 -- rows stay wide where a wide one is put in
 pub wide_set : (rows : List Row) (k : ℕ) (r : Row) → length rows ≡ 24 → ((i : ℕ) → i < 24 → length (get_or rows i blank).above ≡ 24) → length r.above ≡ 24 → (i : ℕ) → i < 24 → length (get_or (set rows k r) i blank).above ≡ 24
 wide_set rows k r f w e i h =

@@ -1,6 +1,6 @@
 -- What a graph is: a number of vertices, and which of them are joined. And what the calls on one do.
 -- Assumes nothing.
-use Rattle.std.specs.Prelude.{◌≡◌, ℕ, ◌+◌, Bool, false, cond, List, [], get_or, ◌≢◌, nat_lt, slice_index_or, slice_set}
+use Rattle.std.specs.Prelude.{◌≡◌, ℕ, ◌+◌, Bool, false, cond, List, [], get_or, ◌≢◌, nat_lt, Option, Some, None, slice_index_or, slice_set}
 use Rattle.graphs.specs.declared.graph.Row.{Row}
 use Rattle.graphs.specs.declared.graph.Graph.{Graph}
 
@@ -25,9 +25,9 @@ pub record Empty (g : Graph) : Type 0 where
   pub vertices : g.vertices ≡ 0
   pub pairs : (i j : ℕ) → joined g i j ≡ false
 
--- h is g with one vertex more, or g itself where it has 24; the answer says which
-pub record Opened (g : Graph) (answer : Bool) (h : Graph) : Type 0 where
-  pub told : answer ≡ nat_lt g.vertices 24
+-- h is g with one vertex more, whose number is the answer, or g itself where it has 24
+pub record Opened (g : Graph) (answer : Option ℕ) (h : Graph) : Type 0 where
+  pub told : answer ≡ cond (nat_lt g.vertices 24) (Some g.vertices) None
   pub vertices : h.vertices ≡ cond (nat_lt g.vertices 24) (g.vertices + 1) g.vertices
   pub rows : h.rows ≡ g.rows
   pub pairs : (i j : ℕ) → joined h i j ≡ joined g i j

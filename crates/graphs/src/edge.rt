@@ -3,17 +3,16 @@
 
 ghost use Rattle.std.specs.Prelude.{◌≡◌, ℕ, ◌<◌, min, max, MatchOption};
 
+use crate::LIMIT;
+
 /// Two vertices, the lower named first.
-#[derive(Copy, Clone)]
+#[derive(Clone, Copy, Debug, PartialEq, Eq, PartialOrd, Ord, Hash)]
 pub struct Edge {
     lower: u8,
     higher: u8,
     ghost ordered: { lower < higher },
     ghost small: { higher < 24 },
 }
-
-/// How many vertices a graph can have.
-const LIMIT: usize = 24;
 
 impl Edge {
     /// The edge between two vertices, named in either order; none where they are one vertex or too high.
@@ -23,12 +22,11 @@ impl Edge {
         if a == b || a >= LIMIT || b >= LIMIT {
             return None;
         }
-        let (lower, higher) = if a < b {
-            (a as u8, b as u8)
-        } else {
-            (b as u8, a as u8)
-        };
-        Some(Edge { lower, higher })
+        let (lower, higher) = (a.min(b), a.max(b));
+        Some(Edge {
+            lower: lower as u8,
+            higher: higher as u8,
+        })
     }
 
     /// The end with the lower number.

@@ -3,23 +3,22 @@
 
 ghost use Rattle.std.specs.Prelude.{◌≡◌, ℕ, ◌<◌, ◌≤◌, [], length, slice_index_or};
 
+use crate::LIMIT;
+
 mod operations;
 pub mod trial;
 
-/// How many vertices a graph can have.
-const LIMIT: u8 = 24;
-
 /// The vertices above one vertex that are joined to it.
-#[derive(Copy, Clone)]
+#[derive(Clone, Copy, Debug, PartialEq, Eq, Hash)]
 pub struct Row {
-    above: [bool; 24],
+    above: [bool; LIMIT],
 }
 
 /// A graph: how many vertices it has, and a row for each that it can have.
-#[derive(Copy, Clone)]
+#[derive(Clone, Copy, Debug, PartialEq, Eq, Hash)]
 pub struct Graph {
     vertices: u8,
-    rows: [Row; 24],
+    rows: [Row; LIMIT],
     ghost few: { vertices ≤ 24 },
     ghost full: { length rows ≡ 24 },
     ghost wide: { (i : ℕ) → i < 24 → length (slice_index_or rows i (record { above = [] })).above ≡ 24 },

@@ -7,3 +7,6 @@ mod graph;
 pub use edge::Edge;
 pub use graph::Graph;
 pub use graph::trial::Trial;
+
+/// How many vertices a graph can have.
+const LIMIT: usize = 24;

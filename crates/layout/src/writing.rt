@@ -1,9 +1,9 @@
-// The bytes of a certificate. Each part is written byte by byte from front to back, so that what is written so far, and that
-// nothing past it has changed, is all that a step has to keep. A byte of the map is made up before it is written.
-ghost use Rattle.std.specs.Prelude.{◌≡◌, ℕ, ◌+◌, ◌*◌, ◌^◌, ◌<◌, ◌≤◌, List, ◌++◌, length, MatchOption, slice_index_or};
-ghost use Rattle.layout.specs.Length.{certificate_bytes, map_bytes};
-ghost use Rattle.layout.specs.Certificate.{present, bits, codes_of, map_of, head_of, bytes_of, over};
-ghost use Rattle.layout.specs.Written.{Wrote, Ended, Stored};
+// The bytes of a certificate. Head, map and codes stand one after the other, and each is written into a part of the lent memory
+// of its own.
+ghost use Rattle.std.specs.Prelude.{◌≡◌, ℕ, ◌+◌, ◌*◌, ◌^◌, ◌<◌, ◌≤◌, length, slice_index_or};
+ghost use Rattle.layout.specs.Length.{map_bytes};
+ghost use Rattle.layout.specs.Certificate.{present, bits, codes_of, map_of, head_of};
+ghost use Rattle.layout.specs.Written.{Ended, Stored};
 
 use fields::Field;
 
@@ -16,69 +16,52 @@ pub const HEAD: usize = 6;
 /// The most products that a certificate is written for.
 const MOST_PRODUCTS: usize = 1_000_000;
 
-/// The most equations that two bytes can say.
-const MOST_EQUATIONS: usize = 65_535;
-
 // Whether a product is there and has a coefficient that is not zero.
 fn stands<F: Field>(coefficients: &[F], product: usize) -> bool
     ensures { result ≡ present F.ops (length coefficients.now) (λ k. slice_index_or coefficients.now k F.ops.zero) product }
 {
-    if product < coefficients.len() {
-        coefficients[product].code() != 0
-    } else {
-        false
-    }
+    coefficients.get(product).is_some_and(|x| !x.is_zero())
 }
 
-// The byte of the map for the eight products from 8 times `place` on.
+// The byte of the map for the eight products from 8 times `place` on: the first of them has the lowest bit.
 fn map_byte<F: Field>(coefficients: &[F], place: usize) -> u8
     requires { 8 * place + 8 < 2 ^ 64 }
     ensures { result ≡ bits F.ops (length coefficients.now) (λ k. slice_index_or coefficients.now k F.ops.zero) place 8 }
 {
-    let mut byte = 0u8;
-    for k in 0..8 {
-        if stands(coefficients, 8 * place + k) {
-            byte += 1 << k;
-        }
-    }
-    byte
+    (0..8)
+        .map(|k| u8::from(stands(coefficients, 8 * place + k)) << k)
+        .sum()
 }
 
-// Writes the head, six bytes.
-fn write_head(order: u8, vertices: u8, degree: u8, equations: usize, certificate: &mut [u8])
-    requires room { 6 ≤ length certificate.old }
-    requires few { equations < 65536 }
-    ensures { Wrote (head_of order vertices degree equations) certificate.old certificate.new }
+// The head: the form, the field, the vertices, the degree and the equations.
+fn head(order: u8, vertices: u8, degree: u8, equations: u16) -> [u8; HEAD]
+    ensures { result ≡ head_of order vertices degree equations }
 {
-    certificate[0] = FORM;
-    certificate[1] = order;
-    certificate[2] = vertices;
-    certificate[3] = degree;
-    certificate[4] = (equations / 256) as u8;
-    certificate[5] = (equations % 256) as u8;
+    let [high, low] = equations.to_be_bytes();
+    [FORM, order, vertices, degree, high, low]
 }
 
-// Writes the map behind the head.
-fn write_map<F: Field>(coefficients: &[F], certificate: &mut [u8])
+// Writes the map.
+fn write_map<F: Field>(coefficients: &[F], map: &mut [u8])
     requires few { length coefficients.now ≤ 1000000 }
-    requires room { 6 + map_bytes (length coefficients.now) ≤ length certificate.old }
-    ensures { (done before : List ℕ) → length done ≡ 6 → Wrote done before certificate.old → Wrote (done ++ map_of F.ops (length coefficients.now) (λ k. slice_index_or coefficients.now k F.ops.zero)) before certificate.new }
+    requires long { length map.old ≡ map_bytes (length coefficients.now) }
+    ensures { map.new ≡ map_of F.ops (length coefficients.now) (λ k. slice_index_or coefficients.now k F.ops.zero) }
 {
-    for place in 0..(coefficients.len() + 7) / 8 {
-        certificate[HEAD + place] = map_byte(coefficients, place);
+    for (place, byte) in map.iter_mut().enumerate() {
+        *byte = map_byte(coefficients, place);
     }
 }
 
-// Writes the codes of the coefficients that are not zero from `start` on, and gives the place behind them.
-fn write_codes<F: Field>(coefficients: &[F], start: usize, certificate: &mut [u8]) -> usize
-    requires { start + length coefficients.now ≤ length certificate.old }
-    ensures { (done before : List ℕ) → length done ≡ start → Wrote done before certificate.old → Ended result (done ++ codes_of F.ops (length coefficients.now) (λ k. slice_index_or coefficients.now k F.ops.zero)) before certificate.new }
+// Writes the codes of the coefficients that are not zero, and gives how many.
+fn write_codes<F: Field>(coefficients: &[F], codes: &mut [u8]) -> usize
+    requires { length coefficients.now ≤ length codes.old }
+    ensures { Ended result (codes_of F.ops (length coefficients.now) (λ k. slice_index_or coefficients.now k F.ops.zero)) codes.old codes.new }
 {
-    let mut end = start;
+    // The place moves on only where a code is written, and is the result: a zip with the places would have to count them again.
+    let mut end = 0;
     for x in coefficients {
-        let code = x.code();
-        if code != 0 {
-            certificate[end] = code;
+        if !x.is_zero() {
+            codes[end] = x.code();
             end += 1;
         }
     }
@@ -97,14 +80,14 @@ pub fn write<F: Field>(
     ensures { Stored F.ops coefficients.now vertices degree equations certificate.old result certificate.new }
 {
     let products = coefficients.len();
-    if products > MOST_PRODUCTS || equations > MOST_EQUATIONS {
+    let equations = u16::try_from(equations).ok()?;
+    let bytes = products.div_ceil(8);
+    if products > MOST_PRODUCTS || certificate.len() < HEAD + bytes + products {
         return None;
     }
-    let codes = HEAD + (products + 7) / 8;
-    if certificate.len() < codes + products {
-        return None;
-    }
-    write_head(F::order(), vertices, degree, equations, certificate);
-    write_map(coefficients, certificate);
-    Some(write_codes(coefficients, codes, certificate))
+    let (front, rest) = certificate.split_at_mut(HEAD);
+    let (map, codes) = rest.split_at_mut(bytes);
+    front.copy_from_slice(&head(F::order(), vertices, degree, equations));
+    write_map(coefficients, map);
+    Some(HEAD + bytes + write_codes(coefficients, codes))
 }

@@ -56,3 +56,20 @@ pub choose_some : (n d : ℕ) → 0 < choose (n + d) n
 choose_some n d =
     let s : n + 0 ≡ n = omega arith in
     omega (arith, choose_mono n 0 d (omega arith), ap (λ (m : ℕ). choose m n) s, choose_all n)
+
+choose_widen : (n d : ℕ) → choose (n + d) n ≤ choose (suc n + d) (suc n)
+choose_widen n zero = omega (arith, ap (λ (m : ℕ). choose m n) (add-zero n), choose_all n, choose_some (suc n) 0)
+choose_widen n (suc d) = omega (arith, pascal_sum n d)
+
+-- more variables, by a difference
+choose_wider : (n d k : ℕ) → choose (n + d) n ≤ choose (n + k + d) (n + k)
+choose_wider n d zero = omega (arith, ap (λ (m : ℕ). choose (m + d) m) (add-zero n))
+choose_wider n d (suc k) =
+    let s : suc (n + k) ≡ n + suc k = omega arith in
+    omega (arith, choose_wider n d k, choose_widen (n + k) d, ap (λ (m : ℕ). choose (m + d) m) s)
+
+-- more variables, and a higher degree
+pub choose_most : (n m d e : ℕ) → n ≤ m → d ≤ e → choose (n + d) n ≤ choose (m + e) m
+choose_most n m d e h k =
+    let s : n + (m - n) ≡ m = omega arith in
+    omega (arith, choose_mono n d e k, choose_wider n e (m - n), ap (λ (v : ℕ). choose (v + e) v) s)

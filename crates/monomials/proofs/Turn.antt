@@ -1,75 +1,90 @@
 -- One turn of a loop that goes over the exponents from the last to the first.
 -- Assumes nothing.
-use Rattle.std.proofs.Common.{◌≡◌, ℕ, zero, suc, ◌+◌, ◌-◌, ◌<◌, ◌≤◌, min, List, [], ◌∷◌, length, get_or, drop, sym, refl, ap, ◌∙◌, arith, length-drop}
-use Rattle.std.proofs.lemmas.List.{drop_more}
+use Rattle.std.proofs.Common.{◌≡◌, ℕ, zero, suc, ◌+◌, ◌-◌, ◌<◌, ◌≤◌, List, [], ◌∷◌, ◌++◌, length, sum, sym, refl, ap, ◌∙◌, arith, length-append}
+use Rattle.std.proofs.lemmas.List.{append_assoc, append-nil}
+use Rattle.std.proofs.lemmas.List.Sums.{sum_by-cons}
 use Rattle.monomials.specs.Choose.{choose}
 use Rattle.monomials.specs.Order.{degree, lower, rank_of}
+use Rattle.monomials.proofs.Binomials.{choose_most}
 use Rattle.monomials.proofs.Places.{placed}
 
-pub degree_drop : (i : ℕ) (xs : List ℕ) → degree (drop i xs) ≤ degree xs
-degree_drop zero xs = omega arith
-degree_drop (suc i) [] = omega arith
-degree_drop (suc i) (x ∷ xs) = omega (arith, degree_drop i xs)
+pub degree_append : (xs ys : List ℕ) → degree (xs ++ ys) ≡ degree xs + degree ys
+degree_append [] ys = omega arith
+degree_append (x ∷ xs) ys = omega (arith, degree_append xs ys)
 
-pub rank_drop : (i : ℕ) (xs : List ℕ) → rank_of (drop i xs) ≤ rank_of xs
-unfolding rank_of
-rank_drop zero xs = omega arith
-rank_drop (suc i) [] = omega arith
-rank_drop (suc i) (x ∷ xs) = omega (arith, rank_drop i xs)
+pub degree_is_sum : (xs : List ℕ) → degree xs ≡ sum xs
+degree_is_sum [] = refl
+degree_is_sum (x ∷ xs) = ap (λ (n : ℕ). x + n) (degree_is_sum xs) ∙ sym (sum_by-cons (λ n. n) x xs)
 
 pub lower_is : (m t : ℕ) → 0 < t → lower m t ≡ choose (m + t - 1) m
 unfolding lower
 lower_is m zero h = absurd (omega arith)
 lower_is m (suc t) h = ap (λ (a : ℕ). choose a m) (omega arith)
 
+-- as many of a lower degree in some of the variables are no more than all
+pub lower_most : (n m d e : ℕ) → n ≤ m → d ≤ e → lower n d ≤ choose (m + e) m
+unfolding lower
+lower_most n m zero e h k = omega arith
+lower_most n m (suc d) e h k = choose_most n m d e h (omega arith)
+
 pub lower_none : (m t : ℕ) → t ≡ 0 → lower m t ≡ 0
 unfolding lower
 lower_none m zero h = refl
 lower_none m (suc t) h = absurd (omega arith)
 
-module _ (xs : List ℕ) (j : ℕ) (l : j < length xs) where
-  step : drop j xs ≡ get_or xs j 0 ∷ drop (j + 1) xs
-  step = drop_more xs j 0 l
+-- the last of the exponents, from `later` on, have been added up; `rest` are those before them
+pub record Seen (xs rest : List ℕ) (later total place : ℕ) : Type 0 where
+  pub last : List ℕ
+  pub whole : rest ++ last ≡ xs
+  pub long : length last ≡ later
+  pub sum : degree last ≡ total
+  pub rank : rank_of last ≡ place
 
-  degree_step : degree (drop j xs) ≡ get_or xs j 0 + degree (drop (j + 1) xs)
-  degree_step = ap degree step
+pub none_seen : (xs : List ℕ) → Seen xs xs 0 0 0
+unfolding rank_of
+none_seen xs = record { last = []; whole = append-nil xs; long = refl; sum = refl; rank = refl }
 
-  rank_step : rank_of (drop j xs) ≡ lower (length xs - j) (degree (drop j xs)) + rank_of (drop (j + 1) xs)
+pub all_seen : {xs rest : List ℕ} {later total place : ℕ} → length rest ≡ 0 → Seen xs rest later total place → rank_of xs ≡ place
+all_seen {rest = []} e s = ap rank_of (sym s.whole) ∙ s.rank
+all_seen {rest = x ∷ rest} e s = absurd (omega arith)
+
+-- what has been seen is no more than all
+pub record AtMost (xs : List ℕ) (later total place : ℕ) : Type 0 where
+  pub long : later ≤ length xs
+  pub sum : total ≤ degree xs
+  pub rank : place ≤ rank_of xs
+
+rank_last : (rest last : List ℕ) → rank_of last ≤ rank_of (rest ++ last)
+unfolding rank_of
+rank_last [] last = omega arith
+rank_last (x ∷ rest) last = omega (arith, rank_last rest last)
+
+pub seen_most : {xs rest : List ℕ} {later total place : ℕ} → Seen xs rest later total place → AtMost xs later total place
+seen_most {rest = rest} s = record {
+  long = omega (arith, length-append rest s.last, ap length s.whole, s.long);
+  sum = omega (arith, degree_append rest s.last, ap degree s.whole, s.sum);
+  rank = omega (arith, rank_last rest s.last, ap rank_of s.whole, s.rank);
+}
+
+-- one exponent x more, at the index i from the back
+module _ {xs before rest : List ℕ} {i later next x y total place : ℕ} (step : before ≡ rest ++ y ∷ []) (at : i ≡ later) (more : next ≡ later + 1) (is : x ≡ y)
+    (s : Seen xs before later total place) where
+  pub next_seen : {lowers : ℕ} → lowers ≡ lower (i + 1) (total + x) → Seen xs rest next (total + x) (place + lowers)
   unfolding rank_of
-  rank_step =
-      let len : suc (length (drop (j + 1) xs)) ≡ length xs - j = omega (arith, length-drop (j + 1) xs) in
-      ap rank_of step
-      ∙ ap (λ (m : ℕ). lower m (get_or xs j 0 + degree (drop (j + 1) xs)) + rank_of (drop (j + 1) xs)) len
-      ∙ ap (λ (d : ℕ). lower (length xs - j) d + rank_of (drop (j + 1) xs)) (sym degree_step)
+  next_seen added =
+      let degrees : x + degree s.last ≡ total + x = omega (arith, s.sum) in
+      let longer : suc (length s.last) ≡ i + 1 = omega (arith, s.long) in
+      record {
+        last = x ∷ s.last;
+        whole = sym (append_assoc rest (x ∷ []) s.last) ∙ ap (λ (z : ℕ). (rest ++ z ∷ []) ++ s.last) is ∙ ap (λ (b : List ℕ). b ++ s.last) (sym step) ∙ s.whole;
+        long = omega (arith, longer);
+        sum = degrees;
+        rank = omega (arith, s.rank, added, ap (λ (n : ℕ). lower n (x + degree s.last)) longer, ap (lower (i + 1)) degrees);
+      }
 
--- the turn at i - 1, where what stands from i on has been added up
-module _ (xs : List ℕ) (i total : ℕ) (some : 0 < i) (within : i ≤ length xs) (so_far : total ≡ degree (drop i xs)) where
-  on : i - 1 + 1 ≡ i
-  on = omega arith
-
-  pub total_next : total + get_or xs (i - 1) 0 ≡ degree (drop (i - 1) xs)
-  total_next = omega (arith, degree_step xs (i - 1) (omega arith), ap (λ (k : ℕ). degree (drop k xs)) on, so_far)
-
-  pub total_le : total + get_or xs (i - 1) 0 ≤ degree xs
-  total_le = omega (arith, total_next, degree_drop (i - 1) xs)
-
-  module _ (place : ℕ) (placed-so-far : place ≡ rank_of (drop i xs)) where
-    rank_next : rank_of (drop (i - 1) xs) ≡ lower (length xs - (i - 1)) (total + get_or xs (i - 1) 0) + place
-    rank_next =
-        let r : rank_of (drop (i - 1 + 1) xs) ≡ rank_of (drop i xs) = ap (λ (k : ℕ). rank_of (drop k xs)) on in
-        let d : lower (length xs - (i - 1)) (total + get_or xs (i - 1) 0) ≡ lower (length xs - (i - 1)) (degree (drop (i - 1) xs)) = ap (lower (length xs - (i - 1))) total_next in
-        omega (arith, rank_step xs (i - 1) (omega arith), placed-so-far)
-
-    module _ (small : choose (length xs + degree xs) (length xs) ≤ 1000000) (n : ℕ)
-        (is : n ≡ min 1000001 (lower (length xs - (i - 1)) (total + get_or xs (i - 1) 0))) where
-      below : rank_of (drop (i - 1) xs) < 1000000
-      below = omega (arith, rank_drop (i - 1) xs, (placed xs (degree xs) (omega arith)).0)
-
-      pub place_next : place + n ≡ rank_of (drop (i - 1) xs)
-      place_next = omega (arith, rank_next, below, is)
-
-      pub place_below : place + n < 1000000
-      place_below = omega (arith, place_next, below)
+-- a place is below a count of more variables and a higher degree
+pub rank_below : (xs : List ℕ) (n e : ℕ) → length xs ≤ n → degree xs ≤ e → rank_of xs < choose (n + e) n
+rank_below xs n e h k = omega (arith, (placed xs (degree xs) (omega arith)).0, choose_most (length xs) n (degree xs) e h k)
 
 pub some_below : (m t p : ℕ) → p < lower m t → 0 < t
 unfolding lower

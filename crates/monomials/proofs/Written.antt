@@ -1,6 +1,6 @@
 -- Exponents that are written from the first to the last, with what is left of the place.
 -- Assumes nothing.
-use Rattle.std.proofs.Common.{◌≡◌, ℕ, zero, suc, ◌+◌, ◌-◌, ◌<◌, ◌≤◌, min, List, [], ◌∷◌, ◌++◌, length, get_or, take, set, sym, refl, ap, ◌∙◌, add-zero, add-one, arith}
+use Rattle.std.proofs.Common.{◌≡◌, ℕ, zero, suc, ◌+◌, ◌-◌, ◌<◌, ◌≤◌, List, [], ◌∷◌, ◌++◌, length, get_or, take, set, sym, refl, ap, ◌∙◌, add-zero, add-one, arith}
 use Rattle.std.proofs.lemmas.List.{take_more_set, append_assoc, append-nil, take_all}
 use Rattle.monomials.specs.Choose.{choose}
 use Rattle.monomials.specs.Order.{degree, lower, rank_of, at_most}
@@ -12,7 +12,6 @@ use Rattle.monomials.proofs.Turn.{lower_none}
 -- i of n exponents are written; the others have the degree `top`, and are at the place `left` among those
 pub record Underway (max place n i top left : ℕ) (xs : List ℕ) : Type 0 where
   pub most : top ≤ max
-  pub less : left ≤ place
   pub within : lower (n - i) top + left < lower (n - i) (top + 1)
   pub ends : (ys : List ℕ) → length ys ≡ n - i → degree ys ≡ top → rank_of ys ≡ lower (n - i) top + left →
       (rank_of (take i xs ++ ys) ≡ place) × (degree (take i xs ++ ys) ≤ max)
@@ -41,8 +40,8 @@ module _ (max place n i top left : ℕ) (xs : List ℕ) (g : Underway max place 
       omega (arith, g.within, ap (λ (m : ℕ). lower m top) one_less, ap (λ (m : ℕ). lower m (top + 1)) one_less, lower_step (n - i - 1) top)
 
   -- the later variables have the degree d, and `sub` monomials in them a lower one
-  module _ (long : length xs ≡ n) (small : left ≤ 1000000) (d sub : ℕ) (le : d ≤ top) (from : lower (n - i - 1) d ≤ left)
-      (below : left < lower (n - i - 1) (d + 1)) (is : sub ≡ min 1000001 (lower (n - i - 1) d)) where
+  module _ (long : length xs ≡ n) (d sub : ℕ) (le : d ≤ top) (from : lower (n - i - 1) d ≤ left)
+      (below : left < lower (n - i - 1) (d + 1)) (is : sub ≡ lower (n - i - 1) d) where
     same : n - (i + 1) ≡ n - i - 1
     same = omega arith
 
@@ -73,7 +72,6 @@ module _ (max place n i top left : ℕ) (xs : List ℕ) (g : Underway max place 
     pub goes_on : Underway max place n (i + 1) d (left - sub) (set xs i (top - d))
     goes_on = record {
       most = omega (arith, g.most);
-      less = omega (arith, g.less);
       within = omega (arith, at_d, ap (λ (m : ℕ). lower m (d + 1)) same);
       ends = ends_on;
     }

@@ -1,5 +1,5 @@
 -- Every list of calls has a run. Assumes nothing.
-use Rattle.std.proofs.Common.{ℕ, ◌+◌, ◌≤◌, List, [], ◌∷◌, inl, inr, arith}
+use Rattle.std.proofs.Common.{ℕ, ◌+◌, ◌≤◌, List, [], ◌∷◌, inl, inr, arith, Err, Ok}
 use Rattle.fields.specs.Field.{Ops, Laws}
 use Rattle.coloring.specs.Encoding.{Bounded}
 use Rattle.certificates.specs.declared.refusal.Refusal.TheVariants.{NotOne}
@@ -7,9 +7,8 @@ use Rattle.certificates.specs.Grounds.{Clear}
 use Rattle.certificates.specs.Outcome.{Memory}
 use Rattle.certificates.specs.Verdicts.{infeasible}
 use Rattle.certificates.proofs.Deciding.{formed}
-use Rattle.nulla.specs.declared.reply.Reply.{Reply}
-use Rattle.nulla.specs.declared.reply.Reply.TheVariants.{Passed, Refused}
-use Rattle.nulla.specs.Replies.{told}
+use Rattle.nulla.specs.declared.reply.Answer.TheVariants.{Passed}
+use Rattle.nulla.specs.Replies.{told, Reply}
 use Rattle.nulla.specs.Requests.{Request, open_vertex, add_edge, remove_edge, raise_degree, try_edge, check_certificate}
 use Rattle.nulla.specs.State.{State, fresh, raised}
 use Rattle.nulla.specs.Steps.{Lists, grounds, joined_too, summed, Answers, opens, adds, removes, works, tries, passes, fails, Step, refuses, answers}
@@ -31,13 +30,13 @@ module _ {F : Type 0} {o : Ops F} (laws : Laws o) (l : Lists F) (most : ℕ) (bo
       let w = worked laws s.vertices (l s.vertices (joined_too s i j)) (formed o l most s.vertices (joined_too s i j) bounded few) d m in
       (told w.0, s, w.1, tries w.2)
   answered (check_certificate bytes) s m few c = elim (known_passes laws s.vertices (l s.vertices s.joins) (formed o l most s.vertices s.joins bounded few) bytes m.table c) [
-    | inl h ↦ (Passed, s, summed o l bytes s m, passes h)
-    | inr h ↦ (Refused NotOne, s, summed o l bytes s m, fails h)
+    | inl h ↦ (Ok Passed, s, summed o l bytes s m, passes h)
+    | inr h ↦ (Err NotOne, s, summed o l bytes s m, fails h)
   ]
 
   stepped : (q : Request) (s : State) (m : Memory F) → s.vertices ≤ 24 → (a : Reply) × (t : State) × (k : Memory F) × Step o l q s m a t k
   stepped q s m few = elim (first_or_clear (grounds o l q s m) (known_grounds o l q s m)) [
-    | inl f ↦ (Refused f.0, s, m, refuses f.1)
+    | inl f ↦ (Err f.0, s, m, refuses f.1)
     | inr c ↦ let h = answered q s m few c in (h.0, h.1, h.2, answers c h.3)
   ]
 

@@ -1,17 +1,15 @@
 -- The rules give each call one reply, one state and one memory after it. Assumes nothing.
-use Rattle.std.proofs.Common.{ℕ, ◌+◌, ◌≤◌, refl, ap, inl, inr, arith}
+use Rattle.std.proofs.Common.{ℕ, ◌+◌, ◌≤◌, refl, ap, inl, inr, arith, Err}
 use Rattle.std.proofs.lemmas.Bool.{cases_lt}
 use Rattle.fields.specs.Field.{Ops, Laws}
 use Rattle.nulla.specs.Requests.{Request}
-use Rattle.nulla.specs.declared.reply.Reply.{Reply}
-use Rattle.nulla.specs.declared.reply.Reply.TheVariants.{Refused}
 use Rattle.certificates.specs.declared.verdict.Verdict.{Verdict}
 use Rattle.certificates.specs.Grounds.{Clear}
 use Rattle.certificates.specs.Outcome.{Memory}
 use Rattle.certificates.specs.Verdicts.{infeasible}
 use Rattle.certificates.proofs.Grounds.{first_one, not_both}
 use Rattle.certificates.proofs.Once.{worked_once}
-use Rattle.nulla.specs.Replies.{told}
+use Rattle.nulla.specs.Replies.{told, Reply}
 use Rattle.nulla.specs.State.{State, raised}
 use Rattle.nulla.specs.Steps.{Lists, grounds, Answers, opens, adds, removes, works, tries, passes, fails, Step, refuses, answers}
 use Rattle.nulla.specs.Theorems.{Same, OneOutcome}
@@ -33,7 +31,7 @@ module _ {F : Type 0} {o : Ops F} (laws : Laws o) where
   answers_once few (fails h) (fails k) = record { reply = refl; state = refl; memory = refl }
 
   pub one_outcome : (l : Lists F) → OneOutcome o l
-  one_outcome l c s t u m k j a b few (refuses f) (refuses g) = record { reply = ap Refused (first_one (grounds o l c s m) _ _ f g); state = refl; memory = refl }
+  one_outcome l c s t u m k j a b few (refuses f) (refuses g) = record { reply = ap Err (first_one (grounds o l c s m) _ _ f g); state = refl; memory = refl }
   one_outcome l c s t u m k j a b few (refuses f) (answers d g) = absurd (not_both (grounds o l c s m) _ f d)
   one_outcome l c s t u m k j a b few (answers d f) (refuses g) = absurd (not_both (grounds o l c s m) _ g d)
   one_outcome l c s t u m k j a b few (answers d f) (answers e g) = answers_once few f g

@@ -1,5 +1,5 @@
 -- A certificate that was written passes its check. Assumes nothing.
-use Rattle.std.proofs.Common.{◌≡◌, ℕ, zero, suc, ◌+◌, ◌-◌, ◌<◌, ◌≤◌, Bool, true, cond, ◌⊎◌, List, ◌++◌, length, take, drop, sym, refl, ap, subst, inl, inr, arith}
+use Rattle.std.proofs.Common.{◌≡◌, ℕ, zero, suc, ◌+◌, ◌-◌, ◌<◌, ◌≤◌, Bool, true, cond, ◌⊎◌, List, ◌++◌, length, take, drop, sym, refl, ap, subst, inl, inr, arith, Ok}
 use Rattle.std.proofs.lemmas.List.{take_at}
 use Rattle.std.proofs.lemmas.Bool.{cases_lt, cases_Bool, both_ways, cond-true, cond-false}
 use Rattle.fields.specs.Field.{Ops, Laws}
@@ -7,6 +7,7 @@ use Rattle.coloring.specs.Encoding.{Bounded}
 use Rattle.polynomials.specs.declared.term.Term.{Term}
 use Rattle.polynomials.specs.Product.{products}
 use Rattle.certificates.specs.declared.verdict.Verdict.{Verdict}
+use Rattle.certificates.specs.declared.verdict.Verdict.TheVariants.{Infeasible}
 use Rattle.certificates.specs.Checking.{degree_of, MalformedHeads, Others, BitPast, BadCode, checking, Passes}
 use Rattle.certificates.specs.Grounds.{Clear}
 use Rattle.certificates.specs.Measures.{Excess}
@@ -15,9 +16,8 @@ use Rattle.layout.specs.Reading.{byte, stands, before, code_at, WellFormed}
 use Rattle.layout.specs.Length.{map_bytes}
 use Rattle.certificates.specs.Sizes.{rows}
 use Rattle.layout.proofs.Inverse.{inverse}
-use Rattle.nulla.specs.declared.reply.Reply.{Reply}
-use Rattle.nulla.specs.declared.reply.Reply.TheVariants.{Infeasible, Passed}
-use Rattle.nulla.specs.Replies.{told}
+use Rattle.nulla.specs.declared.reply.Answer.TheVariants.{Passed}
+use Rattle.nulla.specs.Replies.{told, Reply}
 use Rattle.nulla.specs.Requests.{raise_degree, try_edge, check_certificate}
 use Rattle.nulla.specs.State.{State}
 use Rattle.nulla.specs.Theorems.{PassesCheck, WrittenPass}
@@ -86,31 +86,31 @@ module _ {F : Type 0} {o : Ops F} (laws : Laws o) (l : Lists F) (most : ℕ) (bo
   Good n f bytes elements = Clear (checking o.size n (length (l n f)) bytes elements) × Passes o n (l n f) bytes
 
   good_passes : (s : State) (m : Memory F) (n : ℕ) (f : ℕ → ℕ → Bool) (bytes : List ℕ) → s.vertices ≡ n → s.joins ≡ f → Good n f bytes (length m.table)
-      → Step o l (check_certificate bytes) s m Passed s (summed o l bytes s m)
+      → Step o l (check_certificate bytes) s m (Ok Passed) s (summed o l bytes s m)
   good_passes s m n f bytes p q g =
       let here : Good s.vertices s.joins bytes (length m.table) =
       subst (λ h. Good s.vertices h bytes (length m.table)) (sym q) (subst (λ k. Good k f bytes (length m.table)) (sym p) g) in
       answers here.0 (passes here.1)
 
   worked_passes : {n d : ℕ} {f : ℕ → ℕ → Bool} {m p : Memory F} {v : Verdict} (e k : ℕ) → n ≤ 24 → 1 ≤ d → d ≤ 48 → (Excess (length (l n f)) n d → ⊥)
-      → told v ≡ Infeasible e k → Worked o n d (l n f) m v p → PassesCheck o l n f k p.certificate
+      → told v ≡ told (Infeasible e k) → Worked o n d (l n f) m v p → PassesCheck o l n f k p.certificate
   worked_passes {n} {d} {f} {m} e k few low high fits told_is (certified x c) s m' same-n same-f room =
       let bytes = written o n d (l n f) x in
       let long : length bytes ≡ k = cc in
       let front : bytes ≡ take k (bytes ++ drop (length bytes) m.certificate) = sym (take_at bytes (drop (length bytes) m.certificate) k long) in
       let room' : rows n d ≤ length m'.table = subst (λ b. rows n (degree_of b) ≤ length m'.table) (sym front) room in
       let short : length (l n f) ≤ 4095 = omega (arith, bounded.count n f few, bounded.small) in
-      subst (λ b. Step o l (check_certificate b) s m' Passed s (summed o l b s m')) front
+      subst (λ b. Step o l (check_certificate b) s m' (Ok Passed) s (summed o l b s m')) front
       (good_passes s m' n f bytes same-n same-f (faultless n d (l n f) x few low high short (length m'.table) fits room', sums_up n d (l n f) x few low high short c))
   worked_passes e k few low high fits told_is (uncertified h) s m' same-n same-f room = let z : ◌≡◌ {A = ℕ} 0 1 = cc in absurd (omega arith)
 
-  raise_passes : {s t : State} {m p : Memory F} {a : Reply} (d k : ℕ) → s.vertices ≤ 24 → a ≡ Infeasible d k → Step o l raise_degree s m a t p → PassesCheck o l s.vertices s.joins k p.certificate
+  raise_passes : {s t : State} {m p : Memory F} {a : Reply} (d k : ℕ) → s.vertices ≤ 24 → a ≡ told (Infeasible d k) → Step o l raise_degree s m a t p → PassesCheck o l s.vertices s.joins k p.certificate
   raise_passes d k few e (refuses f) = let z : ◌≡◌ {A = ℕ} 0 1 = cc in absurd (omega arith)
   raise_passes {s} d k few e (answers c (works w)) =
       let low : s.degree < 48 = elim (cases_lt s.degree 48) [ inl h ↦ h | inr h ↦ absurd (c.1.0 h) ] in
       worked_passes d k few (omega arith) (omega arith) c.1.1.0 e w
 
-  try_passes : {i j : ℕ} {d : ℕ} {s t : State} {m p : Memory F} {a : Reply} (e k : ℕ) → s.vertices ≤ 24 → a ≡ Infeasible e k → Step o l (try_edge i j d) s m a t p → PassesCheck o l s.vertices (joined_too s i j) k p.certificate
+  try_passes : {i j : ℕ} {d : ℕ} {s t : State} {m p : Memory F} {a : Reply} (e k : ℕ) → s.vertices ≤ 24 → a ≡ told (Infeasible e k) → Step o l (try_edge i j d) s m a t p → PassesCheck o l s.vertices (joined_too s i j) k p.certificate
   try_passes e k few is (refuses f) = let z : ◌≡◌ {A = ℕ} 0 1 = cc in absurd (omega arith)
   try_passes {d = d} e k few is (answers c (tries w)) =
       let low : 1 ≤ d = elim (cases_lt d 1) [ inl h ↦ absurd (c.0 (inr (inr (inl h)))) | inr h ↦ h ] in

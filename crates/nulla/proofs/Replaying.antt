@@ -1,13 +1,13 @@
 -- Calls made one after the other in the same memory are a run. Assumes nothing.
 use Rattle.std.proofs.Common.{◌≡◌, ℕ, suc, ◌+◌, ◌<◌, List, [], ◌∷◌, ◌++◌, map, length, get_or, take, set, sym, refl, ap, ◌∙◌, subst, arith}
-use Rattle.std.proofs.lemmas.List.{map_more, take_more_set, take-take}
+use Rattle.std.proofs.lemmas.List.{map_more, take_more_set}
 use Rattle.fields.specs.Field.{Ops}
 use Rattle.certificates.specs.Outcome.{Memory}
-use Rattle.nulla.specs.declared.reply.Reply.{Reply}
-use Rattle.nulla.specs.Replays.{lending, last, Replayed, ReplayedNew}
+use Rattle.nulla.specs.Replies.{Reply}
+use Rattle.nulla.specs.Replays.{lending, last, Replayed}
 use Rattle.nulla.specs.Requests.{Request}
 use Rattle.nulla.specs.Runs.{Answered, Runs, done, next}
-use Rattle.nulla.specs.State.{State, fresh}
+use Rattle.nulla.specs.State.{State}
 use Rattle.nulla.specs.Steps.{Lists, Step}
 
 module _ {F : Type 0} (o : Ops F) (l : Lists F) where
@@ -50,15 +50,3 @@ module _ {F : Type 0} (o : Ops F) (l : Lists F) where
   pub replayed_makes : {qs : List Request} {s t : State} {m k : Memory F} {bs : List Reply} → Replayed o l qs s m bs t k → Makes o l qs s m bs t k
   replayed_makes {qs} {s} {t} {m} {k} {bs} r =
       subst (λ (z : Memory F). Makes o l qs s m bs t z) r.left (subst (λ (z : List Reply). Makes o l qs s m z t (last m r.answered)) r.replied (runs_make qs r.answered r.each r.ran))
-
--- the first n of the calls, made on a new solver
-pub replayed_new : {F A E : Type 0} (o : Ops F) (lists : E → Lists F) (e e' : E) (f : A → Request) (calls : List A) (n z r : ℕ) (replies : List Reply) {s t : State} {m k : Memory F} → e' ≡ e → s ≡ fresh → z ≡ n → r ≡ n
-    → Replayed o (lists e') (map f (take r (take z calls))) s m (take r replies) t k → ReplayedNew o (lists e) (map f (take n calls)) m (take n replies) k
-replayed_new o lists e e' f calls n z r replies {s} {t} {m} {k} encoded new cut made h =
-    let all : take r (take z calls) ≡ take n calls = ap (λ (i : ℕ). take i (take z calls)) made ∙ ap (λ (i : ℕ). take n (take i calls)) cut ∙ take-take n n calls (omega arith) in (
-      t,
-      subst (λ l. Replayed o l (map f (take n calls)) fresh m (take n replies) t k) (ap lists encoded)
-          (subst (λ (x : State). Replayed o (lists e') (map f (take n calls)) x m (take n replies) t k) new
-          (subst (λ (i : ℕ). Replayed o (lists e') (map f (take n calls)) s m (take i replies) t k) made
-          (subst (λ qs. Replayed o (lists e') (map f qs) s m (take r replies) t k) all h))),
-    )

@@ -6,7 +6,7 @@ use Rattle.coloring.specs.Encoding.{Bounded, Lawful, Joins}
 use Rattle.coloring.proofs.Certified.{no_coloring, grows_vertex, grows_edge}
 use Rattle.polynomials.specs.Certificate.{Certified}
 use Rattle.nulla.specs.Requests.{Request, Removes}
-use Rattle.nulla.specs.declared.reply.Reply.{Reply}
+use Rattle.nulla.specs.Replies.{Reply}
 use Rattle.certificates.specs.Outcome.{Memory}
 use Rattle.certificates.specs.Verdicts.{infeasible}
 use Rattle.nulla.specs.State.{State, state, fresh, with_pair, without_edge, raised}

@@ -1,16 +1,22 @@
 -- When two states are one, and what marking a pair does to one. Assumes nothing.
-use Rattle.std.proofs.Common.{◌≡◌, ℕ, ◌≤◌, Bool, true, false, cond, ◌&&◌, eqb, sym, refl, ap, ◌∙◌, subst, inl, inr, arith}
+use Rattle.std.proofs.Common.{◌≡◌, ℕ, ◌+◌, ◌<◌, ◌≤◌, Bool, true, false, cond, ◌&&◌, eqb, sym, refl, ap, ◌∙◌, subst, inl, inr, arith}
 use native.Mathlib.Bridge.{le_prop}
+use Rattle.std.proofs.Math.Nat.{lt_of_not-le}
 use Rattle.std.proofs.lemmas.Bool.{cases_eq, eq-eqb, ne_eqb}
 use Rattle.fields.specs.Field.{Ops}
 use Rattle.certificates.specs.Outcome.{Memory}
 use Rattle.graphs.specs.declared.graph.Graph.{Graph}
 use Rattle.graphs.specs.Graph.{joined, Marked}
 use Rattle.nulla.specs.Requests.{Request}
-use Rattle.nulla.specs.declared.reply.Reply.{Reply}
+use Rattle.nulla.specs.Replies.{Reply}
 use Rattle.nulla.specs.declared.solver.Solver.{Solver}
+use Rattle.nulla.specs.Standing.{reached}
 use Rattle.nulla.specs.State.{State, state, with_pair}
 use Rattle.nulla.specs.Steps.{Lists, Step}
+
+-- an order that is denied
+pub not_over : (a b : ℕ) → (b < a → ⊥) → a ≤ b
+not_over a b h = let l : a < b + 1 = lt_of_not-le (λ m. h (omega arith)) in omega arith
 
 -- true is not false
 pub differ : true ≡ false → ⊥
@@ -44,8 +50,8 @@ marked_pairs g h i j v p k l =
     ]
 
 -- a solver whose graph is put back is the solver that it was
-pub solver_back : {E : Type 0} (s : Solver E) (h : Graph) (low : s.degree ≤ 48) → h ≡ s.graph → ◌≡◌ {A = Solver E} (record { encoding = s.encoding; graph = h; degree = s.degree; infeasible = s.infeasible; low = low }) s
-solver_back s h low e t = record { encoding = s.encoding; graph = e t; degree = s.degree; infeasible = s.infeasible; low = le_prop low s.low t }
+pub solver_back : {E : Type 0} (s : Solver E) (h : Graph) (low : reached s.standing ≤ 48) → h ≡ s.graph → ◌≡◌ {A = Solver E} (record { encoding = s.encoding; graph = h; standing = s.standing; low = low }) s
+solver_back s h low e t = record { encoding = s.encoding; graph = e t; standing = s.standing; low = le_prop low s.low t }
 
 -- a step, at another name for its reply and its end
 pub step_as : {F : Type 0} {o : Ops F} {l : Lists F} {c : Request} {s t u : State} {m k : Memory F} {a b : Reply} → Step o l c s m a t k → a ≡ b → t ≡ u → Step o l c s m b u k

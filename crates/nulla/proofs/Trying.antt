@@ -1,14 +1,12 @@
 -- A trial answers as a raise does on a solver in which the edge stands. Assumes nothing.
-use Rattle.std.proofs.Common.{◌≡◌, ℕ, ◌+◌, ◌≤◌, false, List, [], ◌∷◌, ◌++◌, length, sym, refl, ap, inl, inr, arith}
+use Rattle.std.proofs.Common.{◌≡◌, ℕ, ◌+◌, ◌≤◌, false, List, [], ◌∷◌, ◌++◌, length, sym, refl, ap, inl, inr, arith, Err}
 use Rattle.fields.specs.Field.{Ops, Laws}
 use Rattle.certificates.specs.declared.refusal.Refusal.{Refusal}
 use Rattle.certificates.specs.Grounds.{Ground, First, Clear, room}
 use Rattle.certificates.specs.Outcome.{Memory}
 use Rattle.certificates.proofs.Grounds.{first_one, not_both}
 use Rattle.certificates.proofs.Once.{worked_once}
-use Rattle.nulla.specs.declared.reply.Reply.{Reply}
-use Rattle.nulla.specs.declared.reply.Reply.TheVariants.{Refused}
-use Rattle.nulla.specs.Replies.{told}
+use Rattle.nulla.specs.Replies.{told, Reply}
 use Rattle.nulla.specs.Requests.{try_edge, raise_degree}
 use Rattle.nulla.specs.State.{State, state}
 use Rattle.nulla.specs.Steps.{Lists, ends_at, standing, raising, joined_too, Step, refuses, answers, works, tries}
@@ -46,7 +44,7 @@ module _ {F : Type 0} {o : Ops F} (laws : Laws o) (l : Lists F) (i j d : ℕ) (s
   raising_past r (inr (_, inr f)) = f.1
 
   alike : {t u : State} {k p : Memory F} {a b : Reply} → Step o l (try_edge i j (d + 1)) s m a t k → Step o l raise_degree with m b u p → (a ≡ b) × (k ≡ p)
-  alike (refuses {r = x} f) (refuses {r = y} g) = (ap Refused (first_one rest x y (first_past before rest x clear f) (raising_past y g)), refl)
+  alike (refuses {r = x} f) (refuses {r = y} g) = (ap Err (first_one rest x y (first_past before rest x clear f) (raising_past y g)), refl)
   alike (refuses {r = x} f) (answers c g) = absurd (not_both rest x (first_past before rest x clear f) c.1.1)
   alike (answers c f) (refuses {r = y} g) = absurd (not_both rest y (raising_past y g) (clear_past before rest c))
   alike (answers c (tries v)) (answers e (works w)) = let h = worked_once laws few v w in (ap told h.0, h.1)

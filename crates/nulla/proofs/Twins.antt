@@ -1,5 +1,5 @@
 -- Two solvers over two fields that get the same calls answer alike. Assumes nothing.
-use Rattle.std.proofs.Common.{◌≡◌, ℕ, zero, suc, ◌*◌, ◌/◌, ◌%◌, ◌<◌, ◌≤◌, Bool, List, ◌∷◌, ◌++◌, length, get_or, drop, sym, refl, ap, ◌∙◌, subst, arith}
+use Rattle.std.proofs.Common.{◌≡◌, ℕ, zero, suc, ◌*◌, ◌/◌, ◌%◌, ◌<◌, ◌≤◌, Bool, List, ◌∷◌, ◌++◌, length, get_or, drop, sym, refl, ap, ◌∙◌, subst, arith, Err}
 use lib.ListN.{length-map}
 use Rattle.std.proofs.lemmas.List.{get_or_append_left}
 use Rattle.fields.specs.Field.{Ops, Laws}
@@ -11,14 +11,12 @@ use Rattle.polynomials.specs.Product.{products}
 use Rattle.polynomials.proofs.Certificates.{products_suffice}
 use Rattle.polynomials.proofs.Independence.{certificates_agree}
 use Rattle.nulla.specs.Requests.{Request, open_vertex, add_edge, remove_edge, raise_degree, try_edge, check_certificate, SameRequest, same as one-request, checks, IsCheck}
-use Rattle.nulla.specs.declared.reply.Reply.{Reply}
-use Rattle.nulla.specs.declared.reply.Reply.TheVariants.{Refused}
 use Rattle.certificates.specs.declared.verdict.Verdict.{Verdict}
 use Rattle.certificates.specs.declared.verdict.Verdict.TheVariants.{Infeasible}
 use Rattle.layout.specs.Certificate.{map_of, codes_of}
 use Rattle.certificates.specs.Outcome.{Memory, Chosen, Worked, certified, uncertified, written}
 use Rattle.certificates.specs.Verdicts.{infeasible}
-use Rattle.nulla.specs.Replies.{told}
+use Rattle.nulla.specs.Replies.{told, Reply}
 use Rattle.nulla.specs.State.{State, raised}
 use Rattle.certificates.specs.Grounds.{First, Clear, room}
 use Rattle.nulla.specs.Steps.{Lists, ends_at, standing, raising, joined_too, grounds, Answers, opens, adds, removes, works, tries, passes, fails, Step, refuses, answers}
@@ -106,7 +104,7 @@ module _ {F G : Type 0} {o : Ops F} {p : Ops G} (first : Laws o) (second : Laws 
     step_alike : {q : Request} {s t u : State} {m j : Memory F} {m' j' : Memory G} {a b : Reply} → s.vertices ≤ 24 → (IsCheck q → ⊥) → length m.table ≡ length m'.table → length m.certificate ≡ length m'.certificate
         → Step o l q s m a t j → Step p k q s m' b u j' → (t ≡ u) × (a ≡ b) × SameBytes a j.certificate j'.certificate
     step_alike {q} {s} {m = m} {m' = m'} few c e r (refuses {r = x} f) (refuses {r = y} g) =
-        (refl, ap Refused (first_one (grounds p k q s m') x y (subst (λ gs. First gs x) (same_grounds q s m m' c e r) f) g), tt)
+        (refl, ap Err (first_one (grounds p k q s m') x y (subst (λ gs. First gs x) (same_grounds q s m m' c e r) f) g), tt)
     step_alike {q} {s} {m = m} {m' = m'} few c e r (refuses {r = x} f) (answers d g) = absurd (not_both (grounds p k q s m') x (subst (λ gs. First gs x) (same_grounds q s m m' c e r) f) d)
     step_alike {q} {s} {m = m} {m' = m'} few c e r (answers d f) (refuses {r = y} g) = absurd (not_both (grounds p k q s m') y g (subst Clear (same_grounds q s m m' c e r) d))
     step_alike few c e r (answers d f) (answers h g) = answers_alike few c f g

@@ -1,7 +1,10 @@
 pub mod Replies
 pub mod Requests
+pub mod Standing
 pub mod State
 pub mod Steps
 pub mod Theorems
 pub mod Runs
 pub mod Replays
+pub mod Words
+pub mod Called

@@ -2,7 +2,7 @@
 use Rattle.std.specs.Prelude.{◌≡◌, List, [], ◌∷◌, map, length}
 use Rattle.fields.specs.Field.{Ops}
 use Rattle.certificates.specs.Outcome.{Memory}
-use Rattle.nulla.specs.declared.reply.Reply.{Reply}
+use Rattle.nulla.specs.Replies.{Reply}
 use Rattle.nulla.specs.Requests.{Request}
 use Rattle.nulla.specs.Runs.{Asked, Answered, Runs}
 use Rattle.nulla.specs.State.{State, fresh}

@@ -1,14 +1,15 @@
 -- Lists of calls on a new solver, and what holds of them: that what the solver says is true after each, and that two solvers over
 -- two fields answer alike. Assumes nothing.
-use Rattle.std.specs.Prelude.{◌≡◌, ℕ, ◌<◌, ◌≤◌, Bool, true, false, List, [], ◌∷◌, length, take, ◌≢◌, slice_index}
+use Rattle.std.specs.Prelude.{◌≡◌, ℕ, ◌<◌, ◌≤◌, Bool, true, false, List, [], ◌∷◌, length, take, ◌≢◌, slice_index, Ok, Err}
 use Rattle.fields.specs.Field.{Ops}
 use Rattle.coloring.specs.Coloring.{Color, Proper}
 use Rattle.polynomials.specs.Certificate.{Certified}
 use Rattle.polynomials.specs.Image.{SameOnes}
 use Rattle.certificates.specs.Checking.{degree_of}
 use Rattle.certificates.specs.Outcome.{Memory}
-use Rattle.nulla.specs.declared.reply.Reply.{Reply}
-use Rattle.nulla.specs.declared.reply.Reply.TheVariants.{Opened, Done, Infeasible, Open, Passed, Refused}
+use Rattle.nulla.specs.Replies.{Reply}
+use Rattle.certificates.specs.declared.verdict.Verdict.TheVariants.{Infeasible, Open}
+use Rattle.nulla.specs.declared.reply.Answer.TheVariants.{Opened, Done, Worked, Passed}
 use Rattle.nulla.specs.Requests.{Request, check_certificate, SameRequest, IsCheck, Removes}
 use Rattle.nulla.specs.State.{State, fresh}
 use Rattle.nulla.specs.Steps.{Lists, Step}
@@ -26,12 +27,12 @@ pub record Answered (F : Type 0) : Type 0 where
 
 -- two certificates that were written are equal except in byte 1, which names the field
 abbrev pub SameBytes : Reply → List ℕ → List ℕ → Type 0
-SameBytes (Opened v) xs ys = Unit {0}
-SameBytes Done xs ys = Unit {0}
-SameBytes (Infeasible d k) xs ys = (i : ℕ) → i < k → (i ≢ 1) → slice_index xs i ≡ slice_index ys i
-SameBytes (Open d) xs ys = Unit {0}
-SameBytes Passed xs ys = Unit {0}
-SameBytes (Refused r) xs ys = Unit {0}
+SameBytes (Ok (Opened v)) xs ys = Unit {0}
+SameBytes (Ok Done) xs ys = Unit {0}
+SameBytes (Ok (Worked (Infeasible d k))) xs ys = (i : ℕ) → i < k → (i ≢ 1) → slice_index xs i ≡ slice_index ys i
+SameBytes (Ok (Worked (Open d))) xs ys = Unit {0}
+SameBytes (Ok Passed) xs ys = Unit {0}
+SameBytes (Err r) xs ys = Unit {0}
 
 module _ {F : Type 0} (o : Ops F) (l : Lists F) where
   -- calls in their order, each from the state that the one before it left
@@ -47,7 +48,7 @@ module _ {F : Type 0} (o : Ops F) (l : Lists F) where
     pub certified : s.infeasible ≡ true → Certified o s.vertices s.degree (l s.vertices s.joins)
     pub uncolorable : s.infeasible ≡ true → (c : ℕ → Color) → Proper s.vertices s.joins c → ⊥
     pub uncertified : s.infeasible ≡ false → 1 ≤ s.degree → Certified o s.vertices s.degree (l s.vertices s.joins) → ⊥
-    pub unpassed : s.infeasible ≡ false → 1 ≤ s.degree → (bytes : List ℕ) (m k : Memory F) (t : State) → degree_of bytes ≡ s.degree → Step o l (check_certificate bytes) s m Passed t k → ⊥
+    pub unpassed : s.infeasible ≡ false → 1 ≤ s.degree → (bytes : List ℕ) (m k : Memory F) (t : State) → degree_of bytes ≡ s.degree → Step o l (check_certificate bytes) s m (Ok Passed) t k → ⊥
 
   -- After the first k calls of a run on a new solver: the state that the rules give, and what the solver then says is true.
   pub record Stands (qs : List (Asked F)) (gs : List (Answered F)) (k : ℕ) : Type 0 where

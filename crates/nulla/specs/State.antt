@@ -2,7 +2,9 @@
 -- says infeasible. Assumes nothing.
 use Rattle.std.specs.Prelude.{ℕ, ◌+◌, Bool, true, false, cond, ◌&&◌, ◌==◌}
 use Rattle.graphs.specs.Graph.{joined}
+use Rattle.certificates.specs.Verdicts.{infeasible}
 use Rattle.nulla.specs.declared.solver.Solver.{Solver}
+use Rattle.nulla.specs.Standing.{reached}
 
 pub record State : Type 0 where
   pub vertices : ℕ
@@ -19,7 +21,7 @@ fresh = state 0 (λ i j. false) 0 false
 
 module _ {E : Type 0} where
   abbrev pub state_of : Solver E → State
-  state_of s = state s.graph.vertices (joined s.graph) s.degree s.infeasible
+  state_of s = state s.graph.vertices (joined s.graph) (reached s.standing) (infeasible s.standing)
 
 -- the same pairs but for (i, j), which is joined or not as v says
 abbrev pub with_pair : (ℕ → ℕ → Bool) → ℕ → ℕ → Bool → ℕ → ℕ → Bool

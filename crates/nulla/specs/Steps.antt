@@ -1,6 +1,6 @@
 -- The rules of a solver: the grounds on which each call is refused, in their order, and what an accepted call answers and leaves.
 -- Assumes nothing.
-use Rattle.std.specs.Prelude.{◌≡◌, ℕ, ◌+◌, ◌<◌, ◌≤◌, min, max, Bool, true, false, ◌⊎◌, List, [], ◌∷◌, ◌++◌, length}
+use Rattle.std.specs.Prelude.{◌≡◌, ℕ, ◌+◌, ◌<◌, ◌≤◌, min, max, Bool, true, false, ◌⊎◌, List, [], ◌∷◌, ◌++◌, length, Ok, Err}
 use Rattle.fields.specs.Field.{Ops}
 use Rattle.polynomials.specs.declared.term.Term.{Term}
 use Rattle.certificates.specs.declared.refusal.Refusal.{Refusal}
@@ -10,9 +10,8 @@ use Rattle.certificates.specs.Checking.{faults, Passes, swept}
 use Rattle.certificates.specs.Grounds.{Ground, if, First, Clear, room}
 use Rattle.certificates.specs.Outcome.{Memory, memory, Worked}
 use Rattle.certificates.specs.Verdicts.{infeasible}
-use Rattle.nulla.specs.declared.reply.Reply.{Reply}
-use Rattle.nulla.specs.declared.reply.Reply.TheVariants.{Opened, Done, Passed, Refused}
-use Rattle.nulla.specs.Replies.{told}
+use Rattle.nulla.specs.declared.reply.Answer.TheVariants.{Opened, Done, Passed}
+use Rattle.nulla.specs.Replies.{told, Reply}
 use Rattle.nulla.specs.Requests.{Request, open_vertex, add_edge, remove_edge, raise_degree, try_edge, check_certificate}
 use Rattle.nulla.specs.State.{State, with_pair, with_vertex, with_edge, without_edge, raised}
 
@@ -76,9 +75,9 @@ module _ {F : Type 0} (o : Ops F) (l : Lists F) where
 
   -- What a call that is not refused on its grounds answers, the state after it, and what it leaves in memory.
   pub data Answers : Request → State → Memory F → Reply → State → Memory F → Type 0 where
-    opens : {s : State} {m : Memory F} → Answers open_vertex s m (Opened s.vertices) (with_vertex s) m
-    adds : {i j : ℕ} {s : State} {m : Memory F} → Answers (add_edge i j) s m Done (with_edge s (min i j) (max i j)) m
-    removes : {i j : ℕ} {s : State} {m : Memory F} → Answers (remove_edge i j) s m Done (without_edge s (min i j) (max i j)) m
+    opens : {s : State} {m : Memory F} → Answers open_vertex s m (Ok (Opened s.vertices)) (with_vertex s) m
+    adds : {i j : ℕ} {s : State} {m : Memory F} → Answers (add_edge i j) s m (Ok Done) (with_edge s (min i j) (max i j)) m
+    removes : {i j : ℕ} {s : State} {m : Memory F} → Answers (remove_edge i j) s m (Ok Done) (without_edge s (min i j) (max i j)) m
     -- the degree after the one reached is worked, and then is reached
     works : {s : State} {m k : Memory F} {v : Verdict} → Worked o s.vertices (s.degree + 1) (l s.vertices s.joins) m v k
         → Answers raise_degree s m (told v) (raised s (infeasible v)) k
@@ -86,11 +85,11 @@ module _ {F : Type 0} (o : Ops F) (l : Lists F) where
     tries : {i j d : ℕ} {s : State} {m k : Memory F} {v : Verdict} → Worked o s.vertices d (l s.vertices (joined_too s i j)) m v k
         → Answers (try_edge i j d) s m (told v) s k
     passes : {bytes : List ℕ} {s : State} {m : Memory F} → Passes o s.vertices (l s.vertices s.joins) bytes
-        → Answers (check_certificate bytes) s m Passed s (summed bytes s m)
+        → Answers (check_certificate bytes) s m (Ok Passed) s (summed bytes s m)
     fails : {bytes : List ℕ} {s : State} {m : Memory F} → (Passes o s.vertices (l s.vertices s.joins) bytes → ⊥)
-        → Answers (check_certificate bytes) s m (Refused NotOne) s (summed bytes s m)
+        → Answers (check_certificate bytes) s m (Err NotOne) s (summed bytes s m)
 
   -- One call. A call that is refused on one of its grounds changes neither solver nor memory.
   pub data Step : Request → State → Memory F → Reply → State → Memory F → Type 0 where
-    refuses : {q : Request} {s : State} {m : Memory F} {r : Refusal} → First (grounds q s m) r → Step q s m (Refused r) s m
+    refuses : {q : Request} {s : State} {m : Memory F} {r : Refusal} → First (grounds q s m) r → Step q s m (Err r) s m
     answers : {q : Request} {s t : State} {m k : Memory F} {a : Reply} → Clear (grounds q s m) → Answers q s m a t k → Step q s m a t k

@@ -1,17 +1,17 @@
 -- What holds of every call on every solver. Assumes nothing.
-use Rattle.std.specs.Prelude.{◌≡◌, ℕ, ◌+◌, ◌≤◌, Bool, true, false, List, ◌++◌, length, take}
+use Rattle.std.specs.Prelude.{◌≡◌, ℕ, ◌+◌, ◌≤◌, Bool, true, false, List, ◌++◌, length, take, Ok}
 use Rattle.fields.specs.Field.{Ops}
 use Rattle.coloring.specs.Coloring.{Color, Proper}
 use Rattle.polynomials.specs.Certificate.{Certified}
 use Rattle.certificates.specs.declared.verdict.Verdict.{Verdict}
+use Rattle.certificates.specs.declared.verdict.Verdict.TheVariants.{Infeasible}
 use Rattle.certificates.specs.Checking.{degree_of}
 use Rattle.certificates.specs.Grounds.{Clear}
 use Rattle.certificates.specs.Outcome.{Memory}
 use Rattle.certificates.specs.Sizes.{rows}
 use Rattle.certificates.specs.Verdicts.{infeasible}
-use Rattle.nulla.specs.declared.reply.Reply.{Reply}
-use Rattle.nulla.specs.declared.reply.Reply.TheVariants.{Infeasible, Passed}
-use Rattle.nulla.specs.Replies.{told}
+use Rattle.nulla.specs.declared.reply.Answer.TheVariants.{Passed}
+use Rattle.nulla.specs.Replies.{told, Reply}
 use Rattle.nulla.specs.Requests.{Request, raise_degree, try_edge, check_certificate}
 use Rattle.nulla.specs.State.{State, state}
 use Rattle.nulla.specs.Steps.{Lists, ends_at, standing, joined_too, summed, Step}
@@ -41,7 +41,7 @@ module _ {F : Type 0} (o : Ops F) (l : Lists F) where
     -- the trial speaks of the graph with the edge
     pub trials : (i j d : ℕ) (s t : State) (m k : Memory F) (v : Verdict) → s.vertices ≤ 24 → Step o l (try_edge i j d) s m (told v) t k
         → Meaning s.vertices d (joined_too s i j) v
-    pub checks : (bytes : List ℕ) (s t : State) (m k : Memory F) → s.vertices ≤ 24 → Step o l (check_certificate bytes) s m Passed t k
+    pub checks : (bytes : List ℕ) (s t : State) (m k : Memory F) → s.vertices ≤ 24 → Step o l (check_certificate bytes) s m (Ok Passed) t k
         → Certified o s.vertices (degree_of bytes) (l s.vertices s.joins) × ((c : ℕ → Color) → Proper s.vertices s.joins c → ⊥)
 
   -- A trial of an edge that may be added answers, and leaves in memory, what a raise to its degree does on a solver in which the edge stands.
@@ -54,10 +54,10 @@ module _ {F : Type 0} (o : Ops F) (l : Lists F) where
   abbrev pub PassesCheck : ℕ → (ℕ → ℕ → Bool) → ℕ → List ℕ → Type 0
   PassesCheck n f k bytes =
       (s : State) (m : Memory F) → s.vertices ≡ n → s.joins ≡ f → rows n (degree_of (take k bytes)) ≤ length m.table
-      → Step o l (check_certificate (take k bytes)) s m Passed s (summed o l (take k bytes) s m)
+      → Step o l (check_certificate (take k bytes)) s m (Ok Passed) s (summed o l (take k bytes) s m)
 
   -- What a raise writes passes the check of its solver, and what a trial writes the check of a solver in which the edge stands.
   pub record WrittenPass : Type 0 where
-    pub raises : (d k : ℕ) (s t : State) (m p : Memory F) → s.vertices ≤ 24 → Step o l raise_degree s m (Infeasible d k) t p → PassesCheck s.vertices s.joins k p.certificate
-    pub trials : (i j e d k : ℕ) (s t : State) (m p : Memory F) → s.vertices ≤ 24 → Step o l (try_edge i j e) s m (Infeasible d k) t p
+    pub raises : (d k : ℕ) (s t : State) (m p : Memory F) → s.vertices ≤ 24 → Step o l raise_degree s m (told (Infeasible d k)) t p → PassesCheck s.vertices s.joins k p.certificate
+    pub trials : (i j e d k : ℕ) (s t : State) (m p : Memory F) → s.vertices ≤ 24 → Step o l (try_edge i j e) s m (told (Infeasible d k)) t p
         → PassesCheck s.vertices (joined_too s i j) k p.certificate

@@ -1,7 +1,7 @@
 // The calls on a solver, written down: what a plan's line asks, and what a run is a list of.
 
 /// A call, with what it is passed. The two ends of an edge may come in either order.
-#[derive(Clone, Copy)]
+#[derive(Clone, Copy, Debug, PartialEq, Eq, Hash)]
 pub enum Call<'a> {
     OpenVertex,
     AddEdge(usize, usize),

@@ -12,7 +12,7 @@ pub use certificates::{Refusal, Verdict};
 use coloring::{Plain, Triangles};
 use fields::{Bit, Four};
 pub use layout::bytes_stand;
-pub use reply::Reply;
+pub use reply::{Answer, Reply};
 pub use solver::Solver;
 pub use theorems::{one_outcome, runs_stand, verdicts_mean};
 

@@ -26,8 +26,9 @@ pub fn make_all<E: Encoding>(
     ensures encoding { solver.new.encoding ≡ solver.old.encoding }
 {
     let count = calls.len().min(replies.len());
-    for k in 0..count {
-        replies[k] = solver.make(calls[k], table, certificate);
+    // A proof sees the replies that are written by their places, and not those that a `zip` would give out.
+    for (k, call) in calls[..count].iter().enumerate() {
+        replies[k] = solver.make(*call, table, certificate);
     }
     count
 }
@@ -52,7 +53,7 @@ pub fn replay<E: Encoding + Drop, D: Encoding + Drop>(
     ensures whole { Whole E.Coeff.ops D.Coeff.ops (E.lists first) (D.lists second) }
 {
     let count = calls.len().min(replies.len().min(other_replies.len()));
-    let made = &calls[0..count];
+    let made = &calls[..count];
     let mut one = Solver::new(first);
     make_all(&mut one, made, table, certificate, replies);
     let mut two = Solver::new(second);

@@ -1,19 +1,36 @@
 // What a solver replies to a call.
-use certificates::Refusal;
+ghost use Rattle.std.specs.Prelude.{Some};
+ghost use Rattle.nulla.specs.Words.{answer_text};
 
-/// The reply to a call.
-#[derive(Clone, Copy)]
-pub enum Reply {
+use certificates::{Refusal, Verdict};
+use std::fmt;
+
+/// What a call comes to that is not refused.
+#[derive(Clone, Copy, Debug, PartialEq, Eq, Hash)]
+pub enum Answer {
     /// The new vertex has this number.
     Opened(u8),
     /// An edge was added or removed.
     Done,
-    /// No proper coloring exists: a certificate of this degree and of so many bytes shows it.
-    Infeasible { degree: u8, length: usize },
-    /// No certificate of this degree exists; nothing follows about colorings.
-    Open { degree: u8 },
+    /// A raise or a trial worked a degree.
+    Worked(Verdict),
     /// The certificate adds up to one.
     Passed,
-    /// The call was refused. It changed nothing, but for the zeros that a check leaves in the table where the sum is not one.
-    Refused(Refusal),
 }
+
+impl fmt::Display for Answer {
+    ghost output = { λ answer. Some (answer_text answer) };
+
+    fn fmt<W: fmt::Write>(&self, f: &mut fmt::Formatter<W>) -> fmt::Result {
+        match self {
+            Answer::Opened(vertex) => write!(f, "batch {vertex}"),
+            Answer::Done => write!(f, "ok"),
+            Answer::Worked(verdict) => write!(f, "{verdict}"),
+            Answer::Passed => write!(f, "passes"),
+        }
+    }
+}
+
+/// The reply to a call: its answer, or the ground on which it was refused. A refused call changed nothing, but for the zeros that a check
+/// leaves in the table where the sum is not one.
+pub type Reply = Result<Answer, Refusal>;

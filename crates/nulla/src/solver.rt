@@ -1,7 +1,9 @@
-// A solver: a graph that grows and shrinks by calls, an encoding of its colorings as equations, the degree reached, and
-// whether it says infeasible. It holds no memory of its own for matrices: callers lend it.
+// A solver: a graph that grows and shrinks by calls, an encoding of its colorings as equations, and what it says at the degree that it
+// has reached. It holds no memory of its own for matrices: callers lend it.
 ghost use Rattle.std.specs.Prelude.{◌≤◌};
+ghost use Rattle.nulla.specs.Standing.{reached};
 
+use certificates::Verdict;
 use graphs::Graph;
 
 pub mod calls;
@@ -11,7 +13,6 @@ pub mod calls;
 pub struct Solver<E> {
     encoding: E,
     graph: Graph,
-    degree: u8,
-    infeasible: bool,
-    ghost low: { degree ≤ 48 },
+    standing: Verdict,
+    ghost low: { reached standing ≤ 48 },
 }

@@ -3,7 +3,7 @@ use Rattle.std.specs.Prelude.{◌≡◌, refl, Bool, true, false, ◌&&◌, cond
 use Rattle.std.proofs.Common.{sym, ap, ◌∙◌, arith, ltb→lt, lit≤}
 use Rattle.fields.specs.Field.{Ops, Laws}
 use Rattle.fields.specs.Bools.{xor, agree, agree_is, and_first, and_second, every, every_at}
-use Rattle.octal.specs.declared.element.Octal.{Octal}
+use Rattle.octal.specs.declared.Octal.{Octal}
 
 abbrev pub octal_add : Octal → Octal → Octal
 octal_add x y = record { unit = xor x.unit y.unit; alpha = xor x.alpha y.alpha; square = xor x.square y.square }

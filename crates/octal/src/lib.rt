@@ -9,12 +9,17 @@ ghost use Rattle.algebra.specs.Reduced.{Solved};
 ghost use Rattle.algebra.specs.Theorems.{FieldsAgree};
 ghost use Rattle.octal.specs.Octal.{octal_ops, octal_laws};
 
-mod element;
-
 use algebra::Grid;
 use algebra::theorems::fields_agree_stands;
-pub use element::Octal;
-use fields::Field;
+use fields::{Bit, Field};
+
+/// An element of the field of eight, by its three coefficients: bools, as in a bit, for the compiler to add by vectors.
+#[derive(Clone, Copy, Debug, PartialEq, Eq, Hash)]
+pub struct Octal {
+    unit: bool,
+    alpha: bool,
+    square: bool,
+}
 
 impl Field for Octal {
     const SIZE: u8 = 8;
@@ -69,17 +74,11 @@ impl Field for Octal {
     }
 
     fn code(self) -> u8 {
-        let low = if self.unit { 1 } else { 0 };
-        let middle = if self.alpha { 2 } else { 0 };
-        let high = if self.square { 4 } else { 0 };
-        high + middle + low
+        4 * u8::from(self.square) + 2 * u8::from(self.alpha) + u8::from(self.unit)
     }
 
     fn from_code(code: u8) -> Option<Octal> {
-        if code >= Self::SIZE {
-            return None;
-        }
-        Some(Octal {
+        (code < Self::SIZE).then_some(Octal {
             unit: code % 2 == 1,
             alpha: code / 2 % 2 == 1,
             square: code / 4 == 1,
@@ -91,17 +90,16 @@ impl Field for Octal {
     }
 }
 
-/// Solves a system over the eight elements in the slice that is lent.
+/// Solves a system over the eight elements in the slice that is lent: its coefficients then stand there, and the answer says whether it has any.
 pub fn solve(cells: &mut [Octal], rows: usize, cols: usize) -> bool
     ensures { Fits rows cols (length cells.old) → Solved octal_ops rows cols cells.old cells.new result }
 {
-    let mut grid = Grid::new(cells, rows, cols);
-    grid.solve()
+    Grid::new(cells, rows, cols).solve()
 }
 
 /// On columns of zeros and ones the field of eight elements says what the bits say.
-pub fn agrees_with_bits() -> u8
+pub fn agrees_with_bits()
     ensures { FieldsAgree bit_ops octal_ops }
 {
-    fields_agree_stands::<fields::Bit, Octal>()
+    fields_agree_stands::<Bit, Octal>();
 }

@@ -2,24 +2,24 @@
 // all places of some cases, comparing neighbours by degree and exponents alone.
 #![tactic(auto)]
 
-use std::io;
+use std::cmp::Ordering;
+use std::{fmt, io};
 
-fn show_count(rt: HostRuntime, variables: usize, degree: usize) -> io::Result<()> {
-    match monomials::count(variables, degree) {
-        Some(monomials) => println!(rt; "count {variables} {degree}: {monomials}"),
-        None => println!(rt; "count {variables} {degree}: refused"),
-    }
-}
+// What a call answers: a number, or that it refuses.
+#[derive(Clone, Copy)]
+struct Answer(Option<usize>);
 
-fn show_rank(rt: HostRuntime, exponents: &[u8]) -> io::Result<()> {
-    match monomials::rank(exponents) {
-        Some(place) => println!(rt; "rank {exponents:?}: {place}"),
-        None => println!(rt; "rank {exponents:?}: refused"),
+impl fmt::Display for Answer {
+    fn fmt<W: fmt::Write>(&self, f: &mut fmt::Formatter<W>) -> fmt::Result {
+        match self.0 {
+            Some(number) => write!(f, "{number}"),
+            None => write!(f, "refused"),
+        }
     }
 }
 
 fn show_unrank(
-    rt: HostRuntime,
+    rt: &impl Print,
     place: usize,
     degree: usize,
     exponents: &mut [u8],
@@ -32,46 +32,34 @@ fn show_unrank(
 }
 
 fn degree_of(exponents: &[u8]) -> usize {
-    let mut total: usize = 0;
-    for exponent in exponents {
-        total = total.wrapping_add(usize::from(*exponent));
-    }
-    total
+    exponents
+        .iter()
+        .fold(0, |total: usize, &x| total.wrapping_add(usize::from(x)))
 }
 
-// Whether the first comes before the second: by degree, then by the larger exponent at the first difference.
-fn comes_before(first: &[u8], second: &[u8]) -> bool {
-    if degree_of(first) != degree_of(second) {
-        return degree_of(first) < degree_of(second);
-    }
-    for (x, y) in first.iter().zip(second.iter()) {
-        if *x != *y {
-            return *x > *y;
-        }
-    }
-    false
+// By degree, and then the one with the larger exponent at the first difference first.
+fn order(first: &[u8], second: &[u8]) -> Ordering {
+    degree_of(first)
+        .cmp(&degree_of(second))
+        .then_with(|| second.cmp(first))
 }
 
 // Whether the monomial at the place has this place, and the one at the next place, if there is any, comes after it.
 fn stands(place: usize, degree: usize, here: &mut [u8], next: &mut [u8]) -> bool {
-    if !monomials::unrank(place, degree, here) || monomials::rank(here) != Some(place) {
-        return false;
-    }
-    !monomials::unrank(place.wrapping_add(1), degree, next) || comes_before(here, next)
+    monomials::unrank(place, degree, here)
+        && monomials::rank(here) == Some(place)
+        && (!monomials::unrank(place.wrapping_add(1), degree, next) || order(here, next).is_lt())
 }
 
 // How many places, from 0 on, stand.
 fn walk(degree: usize, here: &mut [u8], next: &mut [u8]) -> usize {
     let monomials = monomials::count(here.len(), degree).unwrap_or(0);
-    for place in 0..monomials {
-        if !stands(place, degree, here, next) {
-            return place;
-        }
-    }
-    monomials
+    (0..monomials)
+        .take_while(|&place| stands(place, degree, here, next))
+        .count()
 }
 
-fn show_counts(rt: HostRuntime) -> io::Result<()> {
+fn show_counts(rt: &impl Print) -> io::Result<()> {
     for (variables, degree) in [
         (0, 0),
         (0, 75),
@@ -86,31 +74,35 @@ fn show_counts(rt: HostRuntime) -> io::Result<()> {
         (25, 0),
         (3, usize::MAX),
     ] {
-        show_count(rt, variables, degree)?;
+        let answer = Answer(monomials::count(variables, degree));
+        println!(rt; "count {variables} {degree}: {answer}")?;
     }
     Ok(())
 }
 
-fn show_ranks(rt: HostRuntime) -> io::Result<()> {
-    for exponents in [
-        [0, 0],
-        [1, 0],
-        [0, 1],
-        [2, 0],
-        [1, 1],
-        [0, 2],
-        [0, 73],
-        [0, 74],
-    ] {
-        show_rank(rt, &exponents)?;
+fn show_ranks(rt: &impl Print) -> io::Result<()> {
+    let all: [&[u8]; 12] = [
+        &[0, 0],
+        &[1, 0],
+        &[0, 1],
+        &[2, 0],
+        &[1, 1],
+        &[0, 2],
+        &[0, 73],
+        &[0, 74],
+        &[],
+        &[255],
+        &[0; 24],
+        &[0; 25],
+    ];
+    for exponents in all {
+        let answer = Answer(monomials::rank(exponents));
+        println!(rt; "rank {exponents:?}: {answer}")?;
     }
-    show_rank(rt, &[])?;
-    show_rank(rt, &[255])?;
-    show_rank(rt, &[0; 24])?;
-    show_rank(rt, &[0; 25])
+    Ok(())
 }
 
-fn show_places(rt: HostRuntime) -> io::Result<()> {
+fn show_places(rt: &impl Print) -> io::Result<()> {
     for place in [0, 4, 14, 15] {
         show_unrank(rt, place, 4, &mut [7, 7])?;
     }
@@ -122,9 +114,9 @@ fn show_places(rt: HostRuntime) -> io::Result<()> {
 }
 
 fn main(rt: HostRuntime) -> io::Result<()> {
-    show_counts(rt)?;
-    show_ranks(rt)?;
-    show_places(rt)?;
+    show_counts(&rt)?;
+    show_ranks(&rt)?;
+    show_places(&rt)?;
     let two = walk(12, &mut [0; 2], &mut [0; 2]);
     let four = walk(6, &mut [0; 4], &mut [0; 4]);
     let ten = walk(4, &mut [0; 10], &mut [0; 10]);

@@ -1,14 +1,19 @@
 -- An answer is one line, so there are as many lines of answer as lines. Assumes nothing.
-use Rattle.std.proofs.Common.{◌≡◌, ℕ, zero, suc, ◌+◌, ◌/◌, ◌%◌, ◌<◌, ◌≤◌, false, eqb, List, [], ◌∷◌, ◌++◌, length, codes, decimal, sym, refl, ap, ◌∙◌, subst, ⊎_elim, arith}
+use Rattle.std.proofs.Common.{◌≡◌, ℕ, zero, suc, ◌+◌, ◌/◌, ◌%◌, ◌<◌, ◌≤◌, false, eqb, List, [], ◌∷◌, ◌++◌, length, codes, decimal, Ok, Err, sym, refl, ap, ◌∙◌, subst, ⊎_elim, arith}
 use Rattle.std.proofs.lemmas.Fmt.{decimal_digit}
 use Rattle.std.proofs.lemmas.List.{append_assoc}
 use Rattle.std.proofs.lemmas.Bool.{eqb-false, ne_eqb, cases_lt}
-use Rattle.nulla.specs.declared.reply.Reply.{Reply}
-use Rattle.nulla.specs.declared.reply.Reply.TheVariants.{Opened, Done, Infeasible, Open, Passed, Refused}
+use Rattle.certificates.specs.declared.verdict.Verdict.{Verdict}
+use Rattle.certificates.specs.Verdicts.{verdict_text}
+use Rattle.nulla.specs.declared.reply.Answer.{Answer}
+use Rattle.nulla.specs.Replies.{Reply}
+use Rattle.nulla.specs.Words.{answer_text}
+use Rattle.certificates.specs.declared.verdict.Verdict.TheVariants.{Infeasible, Open}
+use Rattle.nulla.specs.declared.reply.Answer.TheVariants.{Opened, Done, Worked, Passed}
 use Rattle.certificates.specs.Refusals.{number_of}
 use Rattle.nulla.specs.State.{State}
 use Rattle.plan.specs.Lines.{lines_of}
-use Rattle.plan.specs.Rendering.{numbered, line_of, Short}
+use Rattle.plan.specs.Rendering.{line_of, Short, ShortAnswer, ShortVerdict}
 use Rattle.plan.specs.Solving.{Store}
 use Rattle.plan.specs.Plans.{too_long, in_turn, AnsweredEach}
 use Rattle.plan.proofs.Going.{PlanGoes, none, next, plan_goes}
@@ -43,20 +48,22 @@ record Ended (line : List ℕ) : Type 0 where
   endless : Endless body
   is : line ≡ body ++ (10 ∷ [])
 
-ended_numbered : (word : List ℕ) (n : ℕ) → Endless word → n < 100 → Ended (numbered word n)
-ended_numbered word n a small = record {
-  body = word ++ decimal n;
-  endless = endless_then word (decimal n) a (endless_decimal n small);
-  is = sym (append_assoc word (decimal n) (10 ∷ []));
-}
+ended_number : (word : List ℕ) (n : ℕ) → Endless word → n < 100 → Ended ((word ++ decimal n) ++ (10 ∷ []))
+ended_number word n a small = record { body = word ++ decimal n; endless = endless_then word (decimal n) a (endless_decimal n small); is = refl }
+
+ended_verdict : (v : Verdict) → ShortVerdict v → Ended (verdict_text v ++ (10 ∷ []))
+ended_verdict (Infeasible degree length) small = ended_number (codes "few ") degree (refl, (refl, (refl, (refl, tt)))) small
+ended_verdict (Open degree) small = ended_number (codes "open ") degree (refl, (refl, (refl, (refl, (refl, tt))))) small
+
+ended_answer : (a : Answer) → ShortAnswer a → Ended (answer_text a ++ (10 ∷ []))
+ended_answer (Opened vertex) small = ended_number (codes "batch ") vertex (refl, (refl, (refl, (refl, (refl, (refl, tt)))))) small
+ended_answer Done small = record { body = codes "ok"; endless = (refl, (refl, tt)); is = refl }
+ended_answer (Worked verdict) small = ended_verdict verdict small
+ended_answer Passed small = record { body = codes "passes"; endless = (refl, (refl, (refl, (refl, (refl, (refl, tt)))))); is = refl }
 
 ended_line : (r : Reply) → Short r → Ended (line_of r)
-ended_line (Opened vertex) small = ended_numbered (codes "batch ") vertex (refl, (refl, (refl, (refl, (refl, (refl, tt)))))) (omega arith)
-ended_line Done small = record { body = codes "ok"; endless = (refl, (refl, tt)); is = refl }
-ended_line (Infeasible degree length) small = ended_numbered (codes "few ") degree (refl, (refl, (refl, (refl, tt)))) (omega arith)
-ended_line (Open degree) small = ended_numbered (codes "open ") degree (refl, (refl, (refl, (refl, (refl, tt))))) (omega arith)
-ended_line Passed small = record { body = codes "passes"; endless = (refl, (refl, (refl, (refl, (refl, (refl, tt)))))); is = refl }
-ended_line (Refused ground) small = ended_numbered (codes "no ") (number_of ground) (refl, (refl, (refl, tt))) small
+ended_line (Ok answer) small = ended_answer answer small
+ended_line (Err ground) small = ended_number (codes "no ") (number_of ground) (refl, (refl, (refl, tt))) small
 
 one_more : (line rest : List ℕ) → Ended line → length (lines_of (line ++ rest)) ≡ suc (length (lines_of rest))
 one_more line rest e =

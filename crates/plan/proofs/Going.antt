@@ -5,7 +5,7 @@ use Rattle.fields.specs.Bit.{bit_ops}
 use Rattle.fields.specs.Field.{Ops}
 use Rattle.certificates.specs.Outcome.{Memory}
 use Rattle.coloring.specs.Equations.{plain}
-use Rattle.nulla.specs.declared.reply.Reply.{Reply}
+use Rattle.nulla.specs.Replies.{Reply}
 use Rattle.nulla.specs.Requests.{Request}
 use Rattle.nulla.specs.State.{State}
 use Rattle.nulla.specs.Steps.{Lists}

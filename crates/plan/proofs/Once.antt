@@ -2,7 +2,7 @@
 use Rattle.std.proofs.Common.{◌≡◌, ℕ, ◌≤◌, List, sym, refl, subst, arith}
 use Rattle.fields.specs.Bit.{bit_ops, bit_laws}
 use Rattle.coloring.specs.Equations.{plain}
-use Rattle.nulla.specs.declared.reply.Reply.{Reply}
+use Rattle.nulla.specs.Replies.{Reply}
 use Rattle.nulla.specs.State.{State}
 use Rattle.nulla.specs.Theorems.{Same}
 use Rattle.nulla.proofs.Once.{one_outcome, step_few}

@@ -1,13 +1,11 @@
 -- A line that names two numbers is cut in one way only, at its first space after the letter's. Assumes nothing.
-use Rattle.std.proofs.Common.{◌≡◌, ℕ, ◌+◌, ◌-◌, ◌^◌, ◌<◌, ◌≤◌, List, [], ◌∷◌, ◌++◌, length, get_or, take, drop, sym, refl, ap, ◌∙◌, subst, ⊎_elim, pow-suc, add-one, arith}
-use Rattle.std.proofs.lemmas.List.{length-append, get_or_at, get_or_append_left, get_or-append_right, take_at, drop_at, drop_more, drop-drop, take-append-drop, append_assoc, drop_all}
+use Rattle.std.proofs.Common.{◌≡◌, ℕ, ◌+◌, ◌-◌, ◌<◌, ◌≤◌, List, [], ◌∷◌, ◌++◌, length, get_or, take, drop, sym, refl, ap, ◌∙◌, subst, Some, None, Option, codes, ⊎_elim, arith}
+use Rattle.std.proofs.lemmas.List.{length-append, get_or_at, get_or_append_left, get_or-append_right, take_at, drop_at, drop_more, append_assoc, drop_all}
 use Rattle.std.proofs.lemmas.Bool.{cases_lt, cases_order}
 use Rattle.plan.specs.Lines.{Found}
-use Rattle.plan.specs.Spelling.{extended, Decimal, Names, opens, adds, removes, raises, Malformed, SpelledOnce}
-
--- One digit more keeps the number below the next power of ten.
-pub extended_below : (v d i : ℕ) → v < 10 ^ i → d < 58 → extended v d < 10 ^ (i + 1)
-extended_below v d i small digit = rw (add-one, pow-suc 10 i) (omega arith)
+use Rattle.plan.specs.Spelling.{Decimal, Names, opens, adds, removes, raises, Malformed, Valued, Named, Parsed, SpelledOnce}
+use Rattle.nulla.specs.declared.call.Call.TheVariants.{AddEdge, RemoveEdge}
+use Rattle.std.specs.Option.{option_map}
 
 -- A byte's first place is one place only.
 not_before : (text : List ℕ) (byte from p q : ℕ) → Found text byte from p → Found text byte from q → p < q → ⊥
@@ -67,22 +65,12 @@ module _ (letter : ℕ) (line : List ℕ) (i j : ℕ) (n : Names letter line i j
         second_is = subst (λ t. Decimal t j) (sym second) n.second_is;
       }
 
--- A line that is cut so names the two numbers.
-pub cut_names : (line : List ℕ) (space i j : ℕ) → Found line 32 2 space → Cut (get_or line 0 0) line space i j → Names (get_or line 0 0) line i j
-cut_names line space i j f c =
-    let after : 2 ≤ space = f.after in
-    let zeroth : line ≡ get_or line 0 0 ∷ drop 1 line = drop_more line 0 0 (omega (arith, c.long)) in
-    let first : drop 1 line ≡ get_or line 1 0 ∷ drop 2 line = drop_more line 1 0 (omega (arith, c.long)) in
-    let place : 2 + (space - 2) ≡ space = omega arith in
-    let rest : drop (space - 2) (drop 2 line) ≡ get_or line space 0 ∷ drop (space + 1) line = drop-drop (space - 2) 2 line ∙ ap (λ k. drop k line) place ∙ drop_more line space 0 c.inside in
-    let whole : drop 2 line ≡ take (space - 2) (drop 2 line) ++ (32 ∷ drop (space + 1) line) = sym (take-append-drop (space - 2) (drop 2 line)) ∙ ap (λ t. take (space - 2) (drop 2 line) ++ t) (rest ∙ ap (λ b. b ∷ drop (space + 1) line) (f.there c.inside)) in
-    record {
-      first = take (space - 2) (drop 2 line);
-      second = drop (space + 1) line;
-      is = zeroth ∙ ap (λ t. get_or line 0 0 ∷ t) (first ∙ ap (λ b. b ∷ drop 2 line) c.spaced ∙ ap (λ t. 32 ∷ t) whole);
-      first_is = c.first_is;
-      second_is = c.second_is;
-    }
+-- A line with no number before the space that was found, or none after it, names no two numbers.
+pub unnamed_first : (line : List ℕ) (space : ℕ) → Found line 32 2 space → Valued (take (space - 2) (drop 2 line)) None → Named line None
+unnamed_first line space f none letter i j names = none i (names_cut letter line i j names space f).first_is
+
+pub unnamed_second : (line : List ℕ) (space : ℕ) → Found line 32 2 space → Valued (drop (space + 1) line) None → Named line None
+unnamed_second line space f none letter i j names = none j (names_cut letter line i j names space f).second_is
 
 decimal_once : (digits : List ℕ) (m n : ℕ) → Decimal digits m → Decimal digits n → m ≡ n
 decimal_once digits m n d e = d.value ∙ sym e.value
@@ -135,32 +123,22 @@ spelled_once line _ _ (raises e) (adds {i = i} {j = j} n) = absurd (one_letter l
 spelled_once line _ _ (raises e) (removes {i = i} {j = j} n) = absurd (one_letter line 87 82 i j e n)
 spelled_once line _ _ (raises e) (raises f) = refl
 
--- A line of another length than one that names no two numbers after `C` or `W` says nothing.
-pub malformed_by : (line : List ℕ) → (length line ≡ 1 → ⊥) → ((i j : ℕ) → Names 67 line i j → ⊥) → ((i j : ℕ) → Names 87 line i j → ⊥) → Malformed line
-malformed_by line long added removed _ (opens e) = long (ap length e)
-malformed_by line long added removed _ (adds {i = i} {j = j} n) = added i j n
-malformed_by line long added removed _ (removes {i = i} {j = j} n) = removed i j n
-malformed_by line long added removed _ (raises e) = long (ap length e)
-
-pub malformed_empty : (line : List ℕ) → length line ≡ 0 → Malformed line
-malformed_empty line e =
-    malformed_by line (λ h. omega arith) (λ i j n. omega (arith, names_long line 67 i j n)) (λ i j n. omega (arith, names_long line 87 i j n))
-
--- Any other letter alone says nothing.
-pub malformed_alone : (letter : ℕ) → (letter ≡ 66 → ⊥) → (letter ≡ 82 → ⊥) → Malformed (letter ∷ [])
-malformed_alone letter b r _ (opens e) = b (ap (λ t. get_or t 0 0) e)
-malformed_alone letter b r _ (adds {i = i} {j = j} n) = omega (arith, names_long (letter ∷ []) 67 i j n)
-malformed_alone letter b r _ (removes {i = i} {j = j} n) = omega (arith, names_long (letter ∷ []) 87 i j n)
-malformed_alone letter b r _ (raises e) = r (ap (λ t. get_or t 0 0) e)
+-- A line that is no letter alone and names no two numbers after `C` or `W` says nothing.
+pub malformed_by : (line : List ℕ) → (line ≡ codes "B" → ⊥) → (line ≡ codes "R" → ⊥) → ((i j : ℕ) → Names 67 line i j → ⊥) → ((i j : ℕ) → Names 87 line i j → ⊥) → Malformed line
+malformed_by line opened raised added removed _ (opens e) = opened e
+malformed_by line opened raised added removed _ (adds {i = i} {j = j} n) = added i j n
+malformed_by line opened raised added removed _ (removes {i = i} {j = j} n) = removed i j n
+malformed_by line opened raised added removed _ (raises e) = raised e
 
 -- A line of one byte is that byte.
-pub only : (line : List ℕ) → length line ≡ 1 → line ≡ get_or line 0 0 ∷ []
-only line e = drop_more line 0 0 (omega arith) ∙ ap (λ t. get_or line 0 0 ∷ t) (drop_all 1 line (omega arith))
+pub only : (line : List ℕ) (byte : ℕ) → length line ≡ 1 → get_or line 0 0 ≡ byte → line ≡ byte ∷ []
+only line byte one is = drop_more line 0 0 (omega arith) ∙ ap (λ t. get_or line 0 0 ∷ t) (drop_all 1 line (omega arith)) ∙ ap (λ b. b ∷ []) is
 
--- Another letter before two numbers says nothing.
-pub malformed_letter : (line : List ℕ) (letter i j : ℕ) → Names letter line i j → (letter ≡ 67 → ⊥) → (letter ≡ 87 → ⊥) → Malformed line
-malformed_letter line letter i j n added removed =
-    malformed_by line
-    (λ h. omega (arith, names_long line letter i j n))
-    (λ i' j' m. added (names_once line letter 67 i i' j j' n m).letters)
-    (λ i' j' m. removed (names_once line letter 87 i i' j j' n m).letters)
+-- What a line says whose letter is `C` or `W`: the two numbers that it names, if it does.
+pub parsed_add : (line : List ℕ) (named : Option (ℕ × ℕ)) → get_or line 0 0 ≡ 67 → Named line named → Parsed line (option_map (λ e. AddEdge e.0 e.1) named)
+parsed_add line (Some e) first n = adds (subst (λ letter. Names letter line e.0 e.1) first n)
+parsed_add line None first n = malformed_by line (λ e. omega (arith, ap (λ t. get_or t 0 0) e)) (λ e. omega (arith, ap (λ t. get_or t 0 0) e)) (n 67) (n 87)
+
+pub parsed_remove : (line : List ℕ) (named : Option (ℕ × ℕ)) → get_or line 0 0 ≡ 87 → Named line named → Parsed line (option_map (λ e. RemoveEdge e.0 e.1) named)
+parsed_remove line (Some e) first n = removes (subst (λ letter. Names letter line e.0 e.1) first n)
+parsed_remove line None first n = malformed_by line (λ e. omega (arith, ap (λ t. get_or t 0 0) e)) (λ e. omega (arith, ap (λ t. get_or t 0 0) e)) (n 67) (n 87)

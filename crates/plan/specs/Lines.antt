@@ -1,5 +1,6 @@
 -- The lines of a text: byte 10 ends a line, and the last line may lack it. An empty text has no line. Assumes nothing.
 use Rattle.std.specs.Prelude.{◌≡◌, ℕ, ◌<◌, ◌≤◌, max, cond, List, [], ◌∷◌, length, ◌==◌, ◌≢◌, slice_index}
+use Rattle.plan.specs.declared.lines.TextLines.{TextLines}
 
 -- One byte more, before the first line.
 abbrev pub begun : ℕ → List (List ℕ) → List (List ℕ)
@@ -9,6 +10,10 @@ begun byte (line ∷ lines) = (byte ∷ line) ∷ lines
 abbrev pub lines_of : List ℕ → List (List ℕ)
 lines_of [] = []
 lines_of (byte ∷ text) = cond (byte == 10) ([] ∷ lines_of text) (begun byte (lines_of text))
+
+-- The lines that an iterator has left.
+abbrev pub left : TextLines → List (List ℕ)
+left lines = lines_of lines.rest.now
 
 -- The first place of a byte in a text, from a place on; the text's end where it does not stand there.
 pub record Found (text : List ℕ) (byte from place : ℕ) : Type 0 where

@@ -2,7 +2,6 @@
 -- encoding. A plan above 4,096 bytes has one answer, and no line of it is read.
 -- Assumes nothing.
 use Rattle.std.specs.Prelude.{◌≡◌, ℕ, ◌*◌, ◌<◌, ◌≤◌, max, cond, List, length, take, drop, ℤ, pos, negsuc, Ok, Err, Result, nat_lt}
-use Rattle.nulla.specs.declared.reply.Reply.TheVariants.{Refused}
 use Rattle.certificates.specs.declared.refusal.Refusal.{Refusal}
 use Rattle.certificates.specs.declared.refusal.Refusal.TheVariants.{OutputTooSmall, PlanTooLong}
 use Rattle.fields.specs.Bit.{bit_ops}
@@ -16,7 +15,7 @@ use Rattle.plan.specs.Texts.{Filled}
 
 -- The text of a plan on a new solver that is lent this memory, and what the memory then holds.
 pub data Written (lent : Store) (plan : List ℕ) : List ℕ → Store → Type 0 where
-  too_long : 4096 < length plan → Written lent plan (line_of (Refused PlanTooLong)) lent
+  too_long : 4096 < length plan → Written lent plan (line_of (Err PlanTooLong)) lent
   in_turn : {text : List ℕ} {end : State} {left : Store} → length plan ≤ 4096 → InTurn (lines_of plan) lent text end left → Written lent plan text left
 
 -- The memory that a plan's text is given: nine bytes for each line, and nine at least. A plan that is too long counts as one line.
@@ -28,6 +27,13 @@ room_of plan = 9 * cond (nat_lt 4096 (length plan)) 1 (max 1 (length (lines_of p
 pub data Answer (plan before : List ℕ) (lent : Store) : Result ℕ Refusal → List ℕ → Store → Type 0 where
   refused : length before < room_of plan → Answer plan before lent (Err OutputTooSmall) before lent
   written : {n : ℕ} {after : List ℕ} {left : Store} → room_of plan ≤ length before → n ≤ room_of plan → Written lent plan (take n after) left → drop n after ≡ drop n before → Answer plan before lent (Ok n) after left
+
+-- The same where the call works in memory of its own, which is all zero at first.
+pub record Tracked (plan before : List ℕ) (result : Result ℕ Refusal) (after : List ℕ) : Type 0 where
+  pub lent : Store
+  pub left : Store
+  pub blank : Blank lent
+  pub answer : Answer plan before lent result after left
 
 -- The same for a caller in C, who sees a number: the text's length, or -4.
 pub data Entry (plan before : List ℕ) : ℤ → List ℕ → Type 0 where

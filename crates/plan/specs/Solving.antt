@@ -5,7 +5,7 @@ use Rattle.fields.specs.Bit.{bit_ops}
 use Rattle.coloring.specs.Equations.{plain}
 use Rattle.nulla.specs.State.{State, fresh}
 use Rattle.certificates.specs.Outcome.{Memory, memory}
-use Rattle.nulla.specs.declared.reply.Reply.{Reply}
+use Rattle.nulla.specs.Replies.{Reply}
 use Rattle.nulla.specs.Requests.{Request}
 use Rattle.nulla.specs.Steps.{Step}
 use Rattle.plan.specs.Spelling.{Spells}

@@ -1,11 +1,10 @@
 -- Lines that are answered in their order, on a solver over any field with any encoding: the calls that they say are a run, and the text is the
 -- rendering of its replies, line by line. What lines say is a relation between a line and what is asked. Assumes nothing.
-use Rattle.std.specs.Prelude.{◌≡◌, ℕ, ◌*◌, ◌≤◌, List, [], ◌∷◌, ◌++◌, length, take, drop}
+use Rattle.std.specs.Prelude.{◌≡◌, ℕ, ◌*◌, ◌≤◌, List, [], ◌∷◌, ◌++◌, length, take, drop, Err}
 use Rattle.fields.specs.Field.{Ops}
 use Rattle.certificates.specs.declared.refusal.Refusal.TheVariants.{MalformedLine}
 use Rattle.certificates.specs.Outcome.{Memory}
-use Rattle.nulla.specs.declared.reply.Reply.{Reply}
-use Rattle.nulla.specs.declared.reply.Reply.TheVariants.{Refused}
+use Rattle.nulla.specs.Replies.{Reply}
 use Rattle.nulla.specs.Replays.{Replayed}
 use Rattle.nulla.specs.Requests.{Request}
 use Rattle.nulla.specs.State.{State}
@@ -24,7 +23,7 @@ module _ (Says : List ℕ → Request → Type 0) where
     reply : {line : List ℕ} {lines : List (List ℕ)} {q : Request} {qs : List Request} {r : Reply} {rs : List Reply} {text : List ℕ}
         → Says line q → Texts lines qs rs text → Texts (line ∷ lines) (q ∷ qs) (r ∷ rs) (line_of r ++ text)
     malformed : {line : List ℕ} {lines : List (List ℕ)} {qs : List Request} {rs : List Reply} {text : List ℕ}
-        → Unsaid line → Texts lines qs rs text → Texts (line ∷ lines) qs rs (line_of (Refused MalformedLine) ++ text)
+        → Unsaid line → Texts lines qs rs text → Texts (line ∷ lines) qs rs (line_of (Err MalformedLine) ++ text)
 
   module _ {F : Type 0} (o : Ops F) (l : Lists F) where
     -- The text of the lines from a state in a memory, with the state and the memory after: what the lines ask was replayed.
@@ -44,4 +43,4 @@ module _ (Says : List ℕ → Request → Type 0) where
     -- One line: what it says is asked, and a line that says nothing is refused and changes nothing.
     pub data Turn (line : List ℕ) : State → Memory F → Reply → State → Memory F → Type 0 where
       says : {q : Request} {s t : State} {m k : Memory F} {r : Reply} → Says line q → Step o l q s m r t k → Turn line s m r t k
-      unsaid : {s : State} {m : Memory F} → Unsaid line → Turn line s m (Refused MalformedLine) s m
+      unsaid : {s : State} {m : Memory F} → Unsaid line → Turn line s m (Err MalformedLine) s m

@@ -8,5 +8,8 @@ ghost use Rattle.plan.specs.Plans.{Entry};
 pub extern "C" fn tracks_plan(plan: &[u8], text: &mut [u8]) -> i64
     ensures { Entry plan.now text.old result text.new }
 {
-    plan::tracks_plan(plan, text)
+    match plan::tracks_plan(plan, text) {
+        Ok(length) => length as i64,
+        Err(ground) => -i64::from(ground.number()),
+    }
 }

@@ -1,30 +1,24 @@
 -- Monomials and their ranks: what is a monomial in the first n variables is the one of its rank, and products of such are such again.
 use Rattle.std.proofs.Common.{◌≡◌, ℕ, zero, suc, ◌+◌, ◌-◌, ◌*◌, ◌/◌, ◌%◌, ◌<◌, ◌≤◌, false, eqb, List, [], ◌∷◌, ◌++◌, length, get_or, take, drop, set, replicate, sym, refl, ap, ◌∙◌, subst, inl, inr, mod-lt, div-lt_iff_lt-mul, arith, length-append, length-drop}
-use Rattle.std.proofs.lemmas.List.{length-replicate, length-take-le, get_or-drop, get_or-replicate, get_or_past, get_or-append_right, ext_get_or, take-append-drop, take_at, take-replicate, length-set, get_or-set_other}
-use Rattle.std.proofs.lemmas.Bool.{cases_lt, cases_eq, eq-eqb, ne_eqb}
+use Rattle.std.proofs.lemmas.List.{length-replicate, length-take-le, get_or-drop, get_or-append_right, ext_get_or, take-append-drop, take_at, take-replicate, length-set, get_or-set_other}
+use Rattle.std.proofs.lemmas.Grind.{common_steps}
+use Rattle.std.proofs.lemmas.Bool.{cases_eq, eq-eqb, ne_eqb}
 use Rattle.monomials.specs.Choose.{choose}
 use Rattle.monomials.specs.Order.{degree, at_most, lower, rank_of}
 use Rattle.monomials.proofs.Places.{placed, onto}
+use Rattle.monomials.proofs.Turn.{degree_append}
 use Rattle.polynomials.specs.declared.term.Term.{Term}
 use Rattle.polynomials.specs.Polynomial.{zeros, alike, plus, times}
 use Rattle.polynomials.specs.Monomial.{Monomial, Within, Formed, padded, monomial_at, count, Ranked}
 use Rattle.polynomials.specs.Product.{product, products}
 use Rattle.polynomials.proofs.Coefficients.{is_alike, cases_alike}
 
-degree_append : (xs ys : List ℕ) → degree (xs ++ ys) ≡ degree xs + degree ys
-degree_append [] ys = omega arith
-degree_append (x ∷ xs) ys = omega (arith, degree_append xs ys)
-
 degree_zeros : (k : ℕ) → degree (replicate k 0) ≡ 0
 degree_zeros zero = refl
 degree_zeros (suc k) = omega (arith, degree_zeros k)
 
 get_or_zeros : (k i : ℕ) → get_or {A = ℕ} (replicate k 0) i 0 ≡ 0
-get_or_zeros k i =
-    elim (cases_lt i k) [
-      | inl l ↦ get_or-replicate k i 0 0 l
-      | inr l ↦ get_or_past (replicate k 0) i 0 (omega (arith, length-replicate {A = ℕ} k 0))
-    ]
+get_or_zeros k i = grind (arith, common_steps)
 
 rank_zeros : (k : ℕ) → rank_of (replicate k 0) ≡ 0
 unfolding rank_of lower

@@ -4,4 +4,4 @@
 mod term;
 pub mod theorems;
 
-pub use term::Term;
+pub use term::{Term, VARIABLES};

@@ -3,10 +3,13 @@
 ghost use Rattle.std.specs.Prelude.{◌≡◌};
 ghost use Rattle.polynomials.specs.Polynomial.{zeros};
 
-#[derive(Copy, Clone)]
+/// How many variables there are, one for each vertex that a graph may have.
+pub const VARIABLES: usize = 24;
+
+#[derive(Clone, Copy, Debug, PartialEq, Eq, Hash)]
 pub struct Term<C> {
     pub coeff: C,
-    pub exponents: [u8; 24],
+    pub exponents: [u8; VARIABLES],
 }
 
 impl<C> Term<C> {
@@ -16,7 +19,7 @@ impl<C> Term<C> {
     {
         Term {
             coeff,
-            exponents: [0; 24],
+            exponents: [0; VARIABLES],
         }
     }
 }

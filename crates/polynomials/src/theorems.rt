@@ -5,78 +5,56 @@ ghost use Rattle.polynomials.specs.Theorems.{PairsAreRing, CertificatesExclude, 
 use fields::Field;
 
 /// Values are taken in a commutative ring.
-pub fn pairs_are_ring<F: Field>() -> u8
+pub fn pairs_are_ring<F: Field>()
     ensures { PairsAreRing F.ops }
-{
-    0
-}
+{}
 
 /// A certificate shows that the equations have no solution.
-pub fn certificates_exclude<F: Field>() -> u8
+pub fn certificates_exclude<F: Field>()
     ensures { CertificatesExclude F.ops }
-{
-    0
-}
+{}
 
 /// More variables and more equations keep a certificate.
-pub fn certificates_stay<F: Field>() -> u8
+pub fn certificates_stay<F: Field>()
     ensures { CertificatesStay F.ops }
-{
-    0
-}
+{}
 
 /// Higher degrees keep a certificate.
-pub fn certificates_rise<F: Field>() -> u8
+pub fn certificates_rise<F: Field>()
     ensures { CertificatesRise F.ops }
-{
-    0
-}
+{}
 
 /// The polynomial one is the term one.
-pub fn one_is_unity<F: Field>() -> u8
+pub fn one_is_unity<F: Field>()
     ensures { OneIsUnity F.ops }
-{
-    0
-}
+{}
 
 /// Combinations of products are known from their coefficients at the ranks.
-pub fn ranks_suffice<F: Field>() -> u8
+pub fn ranks_suffice<F: Field>()
     ensures { RanksSuffice F.ops }
-{
-    0
-}
+{}
 
 /// Certificates may be searched as coefficients by product number.
-pub fn products_suffice<F: Field>() -> u8
+pub fn products_suffice<F: Field>()
     ensures { ProductsSuffice F.ops }
-{
-    0
-}
+{}
 
 /// A certificate of a degree is a solution of the linear system of that degree.
-pub fn matrix_decides<F: Field>() -> u8
+pub fn matrix_decides<F: Field>()
     ensures { MatrixDecides F.ops }
-{
-    0
-}
+{}
 
 /// Equations with coefficients one have the same matrix over every field, read by bits.
-pub fn entries_are_images<F: Field>() -> u8
+pub fn entries_are_images<F: Field>()
     ensures { EntriesAreImages F.ops }
-{
-    0
-}
+{}
 
 /// A certificate can do with independent products, and by them in one way only.
-pub fn certificates_independent<F: Field>() -> u8
+pub fn certificates_independent<F: Field>()
     ensures { CertificatesIndependent F.ops }
-{
-    0
-}
+{}
 
 /// Over two fields, equations with coefficients one have the same certificates by independent products.
-pub fn certificates_agree<F: Field, G: Field>() -> u8
+pub fn certificates_agree<F: Field, G: Field>()
     ensures { CertificatesAgree F.ops G.ops }
-{
-    0
-}
+{}

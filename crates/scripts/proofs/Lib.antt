@@ -1,3 +1,2 @@
 mod Turning
-mod Coding
 mod Running

@@ -1,6 +1,6 @@
 -- What a caller in C gets for a script: the text of its lines on a new solver of the kind that it names, in memory that it lends.
 -- Assumes nothing.
-use Rattle.std.specs.Prelude.{◌≡◌, ℕ, ◌*◌, ◌<◌, ◌≤◌, max, List, length, ℤ, pos, negsuc}
+use Rattle.std.specs.Prelude.{◌≡◌, ℕ, ◌*◌, ◌<◌, ◌≤◌, max, List, length, ℤ, pos, negsuc, Result, Ok, Err}
 use Rattle.fields.specs.Bit.{bit_ops}
 use Rattle.fields.specs.Field.{Ops}
 use Rattle.fields.specs.Four.{four_ops}
@@ -12,6 +12,8 @@ use Rattle.plan.specs.Lines.{lines_of}
 use Rattle.plan.specs.Texts.{Filled}
 use Rattle.calling.specs.Script.{Asks}
 use Rattle.scripts.specs.Codes.{Read, codes_of}
+use Rattle.scripts.specs.Kinds.{number_of}
+use Rattle.scripts.specs.declared.kind.Fault.{Fault}
 
 -- The bytes that a caller lends: the codes of a table's elements, memory for certificates, and memory for the text.
 pub record Lent : Type 0 where
@@ -56,3 +58,8 @@ pub data Entry (kind : ℕ) (script : List ℕ) (before : Lent) : ℤ → Lent �
   no_room : kind ≤ 3 → length script ≤ 65536 → length before.text < room_of script → Entry kind script before (negsuc 3) before
   too_large : kind ≤ 3 → length script ≤ 65536 → room_of script ≤ length before.text → 1048576 < length before.table → Entry kind script before (negsuc 2) before
   ran : {n : ℕ} {after : Lent} → length script ≤ 65536 → room_of script ≤ length before.text → length before.table ≤ 1048576 → RanAs script before n after kind → Entry kind script before (pos n) after
+
+-- The number that a caller in C sees of a length or of what is at fault.
+abbrev pub seen : Result ℕ Fault → ℤ
+seen (Ok n) = pos n
+seen (Err fault) = number_of fault

@@ -9,8 +9,8 @@ ghost use Rattle.calling.specs.Script.{Asks};
 use calling::script::reply_to;
 use coloring::encoding::Encoding;
 use nulla::Solver;
-use plan::answers::write_reply;
-use plan::lines::{LINE_END, find};
+use plan::lines::lines;
+use plan::text::Text;
 
 /// Answers each line of a script, and says how many bytes the answers are. A certificate on a line is decoded into `given`.
 pub fn answer_lines<E: Encoding>(
@@ -24,13 +24,10 @@ pub fn answer_lines<E: Encoding>(
     requires { (9 * length (lines_of script.now) ≤ length text.old) × (length script.now ≤ 2 * length given.old) }
     ensures { Filled Asks E.Coeff.ops (E.lists solver.old.encoding) script.now text.old (state_of solver.old) (memory table.old certificate.old) result text.new (memory table.new certificate.new) }
 {
-    let mut at = 0;
-    let mut used = 0;
-    while at < script.len() {
-        let end = find(script, LINE_END, at);
-        let reply = reply_to(solver, &script[at..end], given, table, certificate);
-        used = write_reply(text, used, reply);
-        at = end + 1;
+    // `plan` has this loop over its own `reply_to`: a closure's promise would have to carry the run.
+    let mut answers = Text::new(text);
+    for line in lines(script) {
+        answers.push_reply(reply_to(solver, line, given, table, certificate));
     }
-    used
+    answers.end()
 }

@@ -8,10 +8,7 @@ use fields::Field;
 fn element<F: Field>(byte: u8) -> F
     ensures { CountsAs F.ops byte result }
 {
-    match F::from_code(byte) {
-        Some(x) => x,
-        None => F::zero(),
-    }
+    F::from_code(byte).unwrap_or(F::zero())
 }
 
 /// Reads each byte as an element.
@@ -19,6 +16,7 @@ pub fn read_codes<F: Field>(bytes: &[u8], elements: &mut [F])
     requires { length elements.old ≡ length bytes.now }
     ensures { Read F.ops bytes.now elements.new }
 {
+    // By places, since what a zipped loop writes isn't proved.
     for (k, byte) in bytes.iter().enumerate() {
         elements[k] = element(*byte);
     }
@@ -29,6 +27,7 @@ pub fn write_codes<F: Field>(elements: &[F], bytes: &mut [u8])
     requires { length elements.now ≡ length bytes.old }
     ensures { bytes.new ≡ codes_of F.ops elements.now }
 {
+    // By places too.
     for (k, x) in elements.iter().enumerate() {
         bytes[k] = x.code();
     }

@@ -2,114 +2,129 @@
 // assignments: an independent account of what elimination decides. A line for each system.
 #![tactic(auto)]
 
-use algebra::Grid;
-use fields::Field;
-use std::io;
+use algebra::{Bit, Field, Four, Grid};
+use std::{fmt, io};
 
 const COLUMNS: usize = 4;
 
-const CELLS: usize = 16;
+const MOST_ROWS: usize = 4;
 
-const CASES: u32 = 24;
+const CELLS: usize = MOST_ROWS * COLUMNS;
 
-// The next state of the generator.
-fn step(state: u32) -> u32 {
-    state.wrapping_mul(1664525).wrapping_add(1013904223)
+const CASES: usize = 24;
+
+// A linear congruential generator.
+#[derive(Drop)]
+struct Generator {
+    state: u32,
+}
+
+impl Generator {
+    // Two bits of the next state.
+    fn next_code(&mut self) -> u8 {
+        self.state = self.state.wrapping_mul(1664525).wrapping_add(1013904223);
+        ((self.state >> 16) & 3) as u8
+    }
+}
+
+// Values of the three variables.
+#[derive(Clone, Copy)]
+struct Assignment<F> {
+    x: F,
+    y: F,
+    z: F,
+}
+
+impl<F: Field> fmt::Display for Assignment<F> {
+    fn fmt<W: fmt::Write>(&self, f: &mut fmt::Formatter<W>) -> fmt::Result {
+        write!(f, "{} {} {}", self.x.code(), self.y.code(), self.z.code())
+    }
 }
 
 // The element of a code, or zero where the field has none.
 fn element<F: Field>(code: u8) -> F {
-    match F::from_code(code) {
-        Some(x) => x,
-        None => F::zero(),
+    F::from_code(code).unwrap_or(F::zero())
+}
+
+// Writes random elements into a system.
+fn fill<F: Field>(cells: &mut [F], generator: &mut Generator) {
+    for cell in cells {
+        *cell = element(generator.next_code());
     }
 }
 
-// Writes random cells, and returns the generator's state.
-fn fill<F: Field>(cells: &mut [F], rows: usize, seed: u32) -> u32 {
-    let mut state = seed;
-    let mut grid = Grid::new(cells, rows, COLUMNS);
-    for row in 0..rows {
-        for col in 0..COLUMNS {
-            state = step(state);
-            grid.set(row, col, element(((state >> 16) & 3) as u8));
-        }
-    }
-    state
-}
-
-// Whether x, y and z solve each equation of the system.
-fn satisfies<F: Field>(cells: &mut [F], rows: usize, x: F, y: F, z: F) -> bool {
-    let grid = Grid::new(cells, rows, COLUMNS);
-    for row in 0..rows {
-        let first = grid.get(row, 0).mul(x);
-        let second = grid.get(row, 1).mul(y);
-        let third = grid.get(row, 2).mul(z);
-        if first.add(second).add(third).code() != grid.get(row, 3).code() {
-            return false;
-        }
-    }
-    true
+// Whether the values solve each equation of the system. By codes: a field is asked for no equality.
+fn satisfies<F: Field>(system: &Grid<F>, rows: usize, values: Assignment<F>) -> bool {
+    (0..rows).all(|row| {
+        let first = system.get(row, 0).mul(values.x);
+        let second = system.get(row, 1).mul(values.y);
+        let third = system.get(row, 2).mul(values.z);
+        first.add(second).add(third).code() == system.get(row, 3).code()
+    })
 }
 
 // Whether some assignment solves the system, by trying all.
-fn search<F: Field>(cells: &mut [F], rows: usize) -> bool {
-    for a in 0..F::order() {
-        for b in 0..F::order() {
-            for c in 0..F::order() {
-                if satisfies(cells, rows, element(a), element(b), element(c)) {
-                    return true;
-                }
-            }
-        }
-    }
-    false
+fn search<F: Field>(system: &Grid<F>, rows: usize) -> bool {
+    (0..F::order()).any(|a| {
+        (0..F::order()).any(|b| {
+            (0..F::order()).any(|c| {
+                let values = Assignment {
+                    x: element(a),
+                    y: element(b),
+                    z: element(c),
+                };
+                satisfies(system, rows, values)
+            })
+        })
+    })
 }
 
-// Solves one system in the first slice, and searches it in the second; writes what came, and returns the generator's state.
+// The solution of a system that elimination gives, if it gives one.
+fn solve<F: Field>(cells: &mut [F], rows: usize) -> Option<Assignment<F>> {
+    let mut grid = Grid::new(cells, rows, COLUMNS);
+    grid.solve().then(|| Assignment {
+        x: grid.get(0, 0),
+        y: grid.get(0, 1),
+        z: grid.get(0, 2),
+    })
+}
+
+// Whether the search finds a solution exactly where there is one, and the values solve the system.
+fn agrees<F: Field>(cells: &mut [F], rows: usize, solution: Option<Assignment<F>>) -> bool {
+    let system = Grid::new(cells, rows, COLUMNS);
+    let found = search(&system, rows);
+    solution.map_or(!found, |values| found && satisfies(&system, rows, values))
+}
+
+// Solves the next system in these cells, and searches a copy of it; writes what came.
 fn compare<F: Field>(
     rt: &HostRuntime,
-    case: u32,
-    rows: usize,
-    seed: u32,
-    cells: &mut [F],
-    copy: &mut [F],
-) -> io::Result<u32> {
-    let next = fill(cells, rows, seed);
-    let _ = fill(copy, rows, seed);
-    let mut grid = Grid::new(cells, rows, COLUMNS);
-    let solved = grid.solve();
-    let x = grid.get(0, 0);
-    let y = grid.get(0, 1);
-    let z = grid.get(0, 2);
+    case: usize,
+    generator: &mut Generator,
+    mut cells: [F; CELLS],
+) -> io::Result<()> {
+    let rows = 1 + case % MOST_ROWS;
+    fill(&mut cells[..rows * COLUMNS], generator);
+    let mut copy = cells;
+    let solution = solve(&mut cells, rows);
+    let verdict = if agrees(&mut copy, rows, solution) {
+        "as the search says"
+    } else {
+        "and the search differs"
+    };
     let size = F::order();
     print!(rt; "{size} elements, system {case} of {rows} equations: ")?;
-    if solved {
-        let a = x.code();
-        let b = y.code();
-        let c = z.code();
-        print!(rt; "solved by {a} {b} {c}")?;
-    } else {
-        print!(rt; "no solution")?;
+    match solution {
+        Some(values) => println!(rt; "solved by {values}, {verdict}"),
+        None => println!(rt; "no solution, {verdict}"),
     }
-    if solved == search(copy, rows) && (!solved || satisfies(copy, rows, x, y, z)) {
-        println!(rt; ", as the search says")?;
-    } else {
-        println!(rt; ", and the search differs")?;
-    }
-    Ok(next)
 }
 
 fn main(rt: HostRuntime) -> io::Result<()> {
-    let mut state = 1;
+    let mut generator = Generator { state: 1 };
     for case in 1..=CASES {
-        let rows = 1 + (case % 4) as usize;
-        let mut bits = [<fields::Bit as Field>::zero(); CELLS];
-        let mut bits_copy = [<fields::Bit as Field>::zero(); CELLS];
-        state = compare(&rt, case, rows, state, &mut bits, &mut bits_copy)?;
-        let mut fours = [<fields::Four as Field>::zero(); CELLS];
-        let mut fours_copy = [<fields::Four as Field>::zero(); CELLS];
-        state = compare(&rt, case, rows, state, &mut fours, &mut fours_copy)?;
+        compare(&rt, case, &mut generator, [Bit::zero(); CELLS])?;
+        compare(&rt, case, &mut generator, [Four::zero(); CELLS])?;
     }
     Ok(())
 }

@@ -20,6 +20,6 @@ impl Draws {
     pub fn below(&mut self, bound: usize) -> usize {
         self.state = self.state.wrapping_mul(FACTOR).wrapping_add(SUMMAND);
         let high = (self.state >> 40) as usize;
-        if bound == 0 { 0 } else { high % bound }
+        high.checked_rem(bound).unwrap_or(0)
     }
 }

@@ -1,133 +1,69 @@
-// One of the solvers that the program works side by side. After every call its graph is read back.
-use crate::counts::{Counts, count};
+// A solver, and the memory lent to it. After every call its graph is read back.
+use crate::log::{Call, Entry, Log, Outcome};
+use crate::readings::Readings;
 use crate::record::Record;
-use crate::step::{Lent, Step, Trial};
-use coloring::encoding::Encoding;
+use crate::sizes::{Counted, Sizes, rows};
+use crate::step::{Lent, Round, Step, Trial};
+use fields::Field;
+use layout::HEAD;
 use nulla::{Refusal, Solver, Verdict};
-use std::io;
+use std::alloc::{AllocError, Global};
 
-/// By how much the degree of a product can pass that of its multiplier.
-const EQUATION_DEGREE: usize = 3;
+/// What degree 1 needs where seven vertices are all joined: 330 rows, and 63 equations by 8 monomials.
+const ELEMENTS: usize = 330 * 505;
 
-/// The bytes of a certificate before its map.
-const HEAD: usize = 6;
+const BYTES: usize = HEAD + 504 + 63;
 
-// How many monomials of so many variables have at most a degree.
-fn monomials(variables: usize, degree: usize) -> usize {
-    let mut count: usize = 1;
-    for k in 0..degree {
-        let place = k + 1;
-        count = count.wrapping_mul(variables.wrapping_add(place)) / place;
-    }
-    count
-}
-
-/// How much memory is lent.
-#[derive(Clone, Copy)]
-struct Sizes {
-    elements: usize,
-    bytes: usize,
-}
-
-impl Sizes {
-    // What working a degree takes at least.
-    fn of(record: &Record, triangles: bool, degree: usize) -> Sizes {
-        let rows = monomials(record.open(), degree.saturating_add(EQUATION_DEGREE));
-        let products = record
-            .equations(triangles)
-            .wrapping_mul(monomials(record.open(), degree));
-        Sizes {
-            elements: rows.wrapping_mul(products.wrapping_add(1)),
-            bytes: products
-                .wrapping_add(products.div_ceil(8))
-                .wrapping_add(HEAD),
-        }
-    }
+/// A certificate that was written: its degree, and how many bytes it has.
+#[derive(Clone, Copy, Debug, Default, PartialEq, Eq)]
+struct Written {
+    degree: u8,
+    length: usize,
 }
 
 /// A solver, the memory lent to it, and what its calls came to.
 #[derive(Drop)]
-pub struct Side<E, C> {
-    name: &'static str,
+pub struct Side<E: Counted> {
     solver: Solver<E>,
-    triangles: bool,
-    table: Vec<C>,
+    table: Vec<E::Coeff>,
     /// holds the certificate last written, which later calls leave as it is until one writes another
     certificate: Vec<u8>,
-    /// that certificate's degree
-    degree: usize,
-    /// that certificate's bytes, 0 before there is one
-    length: usize,
-    /// whether the solver says infeasible
+    written: Option<Written>,
+    /// whether the solver is to say infeasible by what its calls gave: noted here, apart from the solver
     infeasible: bool,
-    counts: Counts,
-    pairs: u32,
-    wrong: u32,
+    log: Log,
+    /// what reading the graph back came to
+    readings: Readings,
 }
 
-// Makes a trial with the first elements of a table and the first bytes of a memory, or with all where there are no more.
-fn try_within<E: Encoding>(
-    solver: &mut Solver<E>,
-    trial: Trial,
-    sizes: Sizes,
-    table: &mut [E::Coeff],
-    certificate: &mut [u8],
-) -> Result<Verdict, Refusal> {
-    let elements = sizes.elements.min(table.len());
-    let bytes = sizes.bytes.min(certificate.len());
-    solver.try_edge(
-        trial.i,
-        trial.j,
-        trial.degree,
-        &mut table[0..elements],
-        &mut certificate[0..bytes],
-    )
+// The first elements of a memory, or all where there are no more.
+fn first<T>(memory: &mut [T], most: usize) -> &mut [T] {
+    let count = most.min(memory.len());
+    &mut memory[..count]
 }
 
-// Checks the first bytes of a memory with the first elements of a table.
-fn check_within<E: Encoding>(
-    solver: &Solver<E>,
-    sizes: Sizes,
-    table: &mut [E::Coeff],
-    certificate: &[u8],
-) -> Result<(), Refusal> {
-    let elements = sizes.elements.min(table.len());
-    let bytes = sizes.bytes.min(certificate.len());
-    solver.check(&certificate[0..bytes], &mut table[0..elements])
-}
-
-impl<E: Encoding> Side<E, E::Coeff> {
-    /// A new solver, over an encoding that has equations for triangles or not.
-    pub fn new(
-        name: &'static str,
-        encoding: E,
-        triangles: bool,
-        table: Vec<E::Coeff>,
-        certificate: Vec<u8>,
-    ) -> Self {
-        Side {
-            name,
+impl<E: Counted + Drop> Side<E> {
+    /// A new solver over an encoding.
+    pub fn new(heap: Global, encoding: E) -> Result<Self, AllocError> {
+        Ok(Side {
             solver: Solver::new(encoding),
-            triangles,
-            table,
-            certificate,
-            degree: 1,
-            length: 0,
+            table: vec![in heap; E::Coeff::zero(); ELEMENTS]?,
+            certificate: vec![in heap; 0u8; BYTES]?,
+            written: None,
             infeasible: false,
-            counts: Counts::new(),
-            pairs: 0,
-            wrong: 0,
-        }
+            log: Log::new(heap),
+            readings: Readings::default(),
+        })
     }
 
-    /// How many pairs were read back.
-    pub fn pairs(&self) -> u32 {
-        self.pairs
+    /// What the calls came to.
+    pub fn log(&self) -> &Log {
+        &self.log
     }
 
-    /// How many pairs were not as the record has them.
-    pub fn wrong(&self) -> u32 {
-        self.wrong
+    /// What reading the graph back came to.
+    pub fn readings(&self) -> Readings {
+        self.readings
     }
 
     // An edge that stands cannot be added, and one that does not cannot be removed: neither call changes the solver.
@@ -139,90 +75,72 @@ impl<E: Encoding> Side<E, E::Coeff> {
         }
     }
 
-    fn read_pairs_above(&mut self, i: usize, record: &Record) {
-        for j in 0..record.open() {
-            if i < j {
-                count(&mut self.pairs);
-                if !self.is_as_recorded(i, j, record) {
-                    count(&mut self.wrong);
-                }
+    // Compares the solver's graph with the record.
+    fn read_back(&mut self, record: &Record) {
+        for i in 0..record.open() {
+            for j in i + 1..record.open() {
+                let as_recorded = self.is_as_recorded(i, j, record);
+                self.readings.note(as_recorded);
             }
         }
     }
 
-    // Compares the solver's graph with the record.
-    fn read_back(&mut self, record: &Record) {
-        for i in 0..record.open() {
-            self.read_pairs_above(i, record);
-        }
+    // Notes what a call came to, after which the graph is to be as recorded.
+    fn note(&mut self, call: Call, outcome: Outcome, after: &Record) -> Result<(), AllocError> {
+        self.log.note(Entry {
+            call,
+            outcome,
+            infeasible: self.infeasible,
+        })?;
+        self.read_back(after);
+        Ok(())
     }
 
-    fn open_vertex(&mut self, after: &Record) {
-        count(&mut self.counts.opened);
-        if let Err(refusal) = self.solver.open_vertex() {
-            self.counts.refuse(refusal);
-        }
-        self.read_back(after);
+    fn open_vertex(&mut self, after: &Record) -> Result<(), AllocError> {
+        let outcome = self.solver.open_vertex();
+        self.note(Call::OpenVertex, outcome.map(|_| None), after)
     }
 
-    fn add_edge(&mut self, i: usize, j: usize, after: &Record) {
-        count(&mut self.counts.added);
-        if let Err(refusal) = self.solver.add_edge(i, j) {
-            self.counts.refuse(refusal);
-        }
-        self.read_back(after);
+    fn add_edge(&mut self, i: usize, j: usize, after: &Record) -> Result<(), AllocError> {
+        let outcome = self.solver.add_edge(i, j);
+        self.note(Call::AddEdge, outcome.map(|()| None), after)
     }
 
-    fn remove_edge(&mut self, i: usize, j: usize, after: &Record) {
-        count(&mut self.counts.removed);
-        match self.solver.remove_edge(i, j) {
-            Ok(()) => self.infeasible = false,
-            Err(refusal) => self.counts.refuse(refusal),
-        }
-        self.read_back(after);
+    fn remove_edge(&mut self, i: usize, j: usize, after: &Record) -> Result<(), AllocError> {
+        let outcome = self.solver.remove_edge(i, j);
+        self.infeasible = self.infeasible && outcome.is_err();
+        self.note(Call::RemoveEdge, outcome.map(|()| None), after)
     }
 
     // Notes which certificate was written, where one was.
     fn keep(&mut self, verdict: Verdict) {
         if let Verdict::Infeasible { degree, length } = verdict {
-            self.degree = degree as usize;
-            self.length = length;
+            self.written = Some(Written { degree, length });
         }
     }
 
-    fn raise(&mut self, after: &Record) {
-        count(&mut self.counts.raises);
-        match self.solver.raise(&mut self.table, &mut self.certificate) {
-            Ok(verdict) => {
-                self.infeasible = verdict.is_infeasible();
-                self.counts.raised.note(verdict);
-                self.keep(verdict);
-            }
-            Err(refusal) => self.counts.refuse(refusal),
+    fn raise(&mut self, after: &Record) -> Result<(), AllocError> {
+        let outcome = self.solver.raise(&mut self.table, &mut self.certificate);
+        if let Ok(verdict) = outcome {
+            self.infeasible = verdict.is_infeasible();
+            self.keep(verdict);
         }
-        self.read_back(after);
+        self.note(Call::Raise, outcome.map(Some), after)
     }
 
-    // Checks the certificate last written, with exactly the table that its sum takes. Says whether it passed.
-    fn check(&mut self, after: &Record) -> bool {
-        count(&mut self.counts.checks);
-        let rows = monomials(after.open(), self.degree.saturating_add(EQUATION_DEGREE));
-        let sizes = Sizes {
-            elements: rows,
-            bytes: self.length,
-        };
-        let outcome = check_within(&self.solver, sizes, &mut self.table, &self.certificate);
-        match outcome {
-            Ok(()) => count(&mut self.counts.passed),
-            Err(refusal) => self.counts.refuse(refusal),
-        }
-        self.read_back(after);
-        outcome.is_ok()
+    // Checks the certificate last written, with exactly the table that its sum takes. Before any is written, an empty certificate is
+    // checked, which is refused.
+    fn check(&mut self, call: Call, after: &Record) -> Result<(), AllocError> {
+        let Written { degree, length } = self.written.unwrap_or_default();
+        let certificate = first(&mut self.certificate, length);
+        let table = first(&mut self.table, rows(after, usize::from(degree)));
+        let outcome = self.solver.check(certificate, table);
+        self.note(call, outcome.map(|()| None), after)
     }
 
     // The memory that a trial is lent, given the graph with its edge.
     fn sizes_lent(&self, trial: Trial, with: &Record) -> Sizes {
-        let needed = Sizes::of(with, self.triangles, trial.degree);
+        let needed = Sizes::of::<E>(with, trial.degree);
         let ample = Sizes {
             elements: self.table.len(),
             bytes: self.certificate.len(),
@@ -232,71 +150,55 @@ impl<E: Encoding> Side<E, E::Coeff> {
             Lent::Exact => needed,
             Lent::ShortTable => Sizes {
                 elements: needed.elements.saturating_sub(1),
-                bytes: ample.bytes,
+                ..ample
             },
             Lent::ShortCertificate => Sizes {
-                elements: ample.elements,
                 bytes: needed.bytes.saturating_sub(1),
+                ..ample
             },
         }
     }
 
     // Adds an edge that was tried, checks the certificate that the trial wrote, and removes the edge again.
-    fn confirm(&mut self, i: usize, j: usize, before: &Record, with: &Record) {
-        self.add_edge(i, j, with);
-        if self.check(with) {
-            count(&mut self.counts.confirmed);
-        }
-        self.remove_edge(i, j, before);
+    fn confirm(
+        &mut self,
+        i: usize,
+        j: usize,
+        before: &Record,
+        with: &Record,
+    ) -> Result<(), AllocError> {
+        self.add_edge(i, j, with)?;
+        self.check(Call::Confirm, with)?;
+        self.remove_edge(i, j, before)
     }
 
-    fn note_trial(&mut self, verdict: Verdict) {
-        self.counts.tried.note(verdict);
-        if self.infeasible {
-            count(&mut self.counts.while_infeasible);
-        }
-        self.keep(verdict);
-    }
-
-    fn try_edge(&mut self, trial: Trial, after: &Record) {
-        count(&mut self.counts.trials);
-        let with = after.with_edge(trial.i, trial.j);
+    fn try_edge(&mut self, trial: Trial, after: &Record) -> Result<(), AllocError> {
+        let Trial { i, j, degree, .. } = trial;
+        let with = after.with_edge(i, j);
         let sizes = self.sizes_lent(trial, &with);
-        let outcome = try_within(
-            &mut self.solver,
-            trial,
-            sizes,
-            &mut self.table,
-            &mut self.certificate,
-        );
-        self.read_back(after);
-        match outcome {
-            Ok(verdict) => {
-                self.note_trial(verdict);
-                if verdict.is_infeasible() {
-                    self.confirm(trial.i, trial.j, after, &with);
-                }
+        let table = first(&mut self.table, sizes.elements);
+        let certificate = first(&mut self.certificate, sizes.bytes);
+        let outcome = self.solver.try_edge(i, j, degree, table, certificate);
+        self.note(Call::TryEdge, outcome.map(Some), after)?;
+        if let Ok(verdict) = outcome {
+            self.keep(verdict);
+            if verdict.is_infeasible() {
+                self.confirm(i, j, after, &with)?;
             }
-            Err(refusal) => self.counts.refuse(refusal),
         }
+        Ok(())
     }
 
-    /// Takes a step, after which the graph is to be as recorded.
-    pub fn take(&mut self, step: Step, after: &Record) {
-        match step {
+    /// Takes the step of a round, after which the graph is to be as recorded.
+    pub fn take(&mut self, round: &Round) -> Result<(), AllocError> {
+        let after = &round.after;
+        match round.step {
             Step::OpenVertex => self.open_vertex(after),
             Step::AddEdge(i, j) => self.add_edge(i, j, after),
             Step::RemoveEdge(i, j) => self.remove_edge(i, j, after),
             Step::Raise => self.raise(after),
             Step::TryEdge(trial) => self.try_edge(trial, after),
-            Step::Check => {
-                let _ = self.check(after);
-            }
+            Step::Check => self.check(Call::Check, after),
         }
-    }
-
-    /// Prints what the calls came to.
-    pub fn show(&self, rt: HostRuntime) -> io::Result<()> {
-        self.counts.show(rt, self.name)
     }
 }

@@ -4,145 +4,70 @@
 #![tactic(auto)]
 
 use coloring::encoding::plain::Plain;
+use families::{Family, work};
 use fields::{Bit, Field};
-use nulla::{Refusal, Solver, Verdict};
-use std::{fmt, io};
+use std::io;
 
-const ELEMENTS: usize = 4_194_304;
-
-const BYTES: usize = 65_536;
-
-/// How many vertices the cycle has that the Grötzsch graph is made from.
-const CYCLE: usize = 5;
-
-/// A graph of a family.
-#[derive(Clone, Copy)]
-enum Shape {
-    /// so many vertices, all joined
-    Complete(u8),
-    /// a hub, joined to every vertex of a cycle of so many
-    Wheel(u8),
-    /// eleven vertices and twenty edges, without a triangle
-    Grotzsch,
+/// How much memory a solver is lent.
+#[derive(Clone, Copy, Debug, PartialEq, Eq)]
+struct Lent {
+    elements: usize,
+    bytes: usize,
 }
 
-impl fmt::Display for Shape {
-    fn fmt<W: fmt::Write>(&self, f: &mut fmt::Formatter<W>) -> fmt::Result {
-        match self {
-            Shape::Complete(vertices) => write!(f, "complete {vertices}"),
-            Shape::Wheel(rim) => write!(f, "wheel {rim}"),
-            Shape::Grotzsch => write!(f, "grotzsch"),
-        }
+/// More than any of the graphs needs.
+const AMPLE: Lent = Lent {
+    elements: 4_194_304,
+    bytes: 65_536,
+};
+
+// Works a graph with so much memory, and ends the line with what that comes to. Each program that works a family prints that by
+// itself, as each shows other parts of a certificate: here none, since the verdict alone is known of these graphs.
+fn answer(rt: HostRuntime, family: Family, lent: Lent) -> io::Result<()> {
+    let mut table = vec![in rt.alloc(); Bit::zero(); lent.elements]?;
+    let mut certificate = vec![in rt.alloc(); 0u8; lent.bytes]?;
+    match work(Plain::new(), family, &mut table, &mut certificate) {
+        Ok(verdict) => println!(rt; "{verdict}"),
+        Err(refusal) => println!(rt; "refused by {refusal}"),
     }
 }
 
-fn open(solver: &mut Solver<Plain<Bit>>, vertices: usize) -> Result<(), Refusal> {
-    for _ in 0..vertices {
-        solver.open_vertex()?;
-    }
-    Ok(())
+fn answer_plainly(rt: HostRuntime, family: Family) -> io::Result<()> {
+    print!(rt; "{family}: ")?;
+    answer(rt, family, AMPLE)
 }
 
-fn join_below(solver: &mut Solver<Plain<Bit>>, vertex: usize) -> Result<(), Refusal> {
-    for lower in 0..vertex {
-        solver.add_edge(lower, vertex)?;
-    }
-    Ok(())
-}
-
-fn join_cycle(solver: &mut Solver<Plain<Bit>>, length: usize) -> Result<(), Refusal> {
-    for place in 0..length {
-        solver.add_edge(place, (place + 1) % length)?;
-    }
-    Ok(())
-}
-
-fn complete(vertices: usize) -> Result<Solver<Plain<Bit>>, Refusal> {
-    let mut solver = Solver::new(Plain::new());
-    open(&mut solver, vertices)?;
-    for vertex in 0..vertices {
-        join_below(&mut solver, vertex)?;
-    }
-    Ok(solver)
-}
-
-// The hub is the last vertex, so it is joined to all below it.
-fn wheel(rim: usize) -> Result<Solver<Plain<Bit>>, Refusal> {
-    let mut solver = Solver::new(Plain::new());
-    open(&mut solver, rim)?;
-    join_cycle(&mut solver, rim)?;
-    solver.open_vertex()?;
-    join_below(&mut solver, rim)?;
-    Ok(solver)
-}
-
-// Each vertex of a cycle gets a twin that is joined to its two neighbours, and the last vertex is joined to all twins.
-fn grotzsch() -> Result<Solver<Plain<Bit>>, Refusal> {
-    let mut solver = Solver::new(Plain::new());
-    open(&mut solver, 2 * CYCLE + 1)?;
-    join_cycle(&mut solver, CYCLE)?;
-    for place in 0..CYCLE {
-        let twin = CYCLE + place;
-        solver.add_edge(twin, (place + 1) % CYCLE)?;
-        solver.add_edge(twin, (place + CYCLE - 1) % CYCLE)?;
-        solver.add_edge(twin, 2 * CYCLE)?;
-    }
-    Ok(solver)
-}
-
-fn build(shape: Shape) -> Result<Solver<Plain<Bit>>, Refusal> {
-    match shape {
-        Shape::Complete(vertices) => complete(vertices as usize),
-        Shape::Wheel(rim) => wheel(rim as usize),
-        Shape::Grotzsch => grotzsch(),
-    }
-}
-
-fn work(shape: Shape, table: &mut [Bit], certificate: &mut [u8]) -> Result<Verdict, Refusal> {
-    let mut solver = build(shape)?;
-    solver.raise(table, certificate)
-}
-
-fn show(rt: HostRuntime, outcome: Result<Verdict, Refusal>) -> io::Result<()> {
-    match outcome {
-        Ok(Verdict::Infeasible { degree, .. }) => println!(rt; "few {degree}"),
-        Ok(Verdict::Open { degree }) => println!(rt; "open {degree}"),
-        Err(refusal) => println!(rt; "refused by {}", refusal.number()),
-    }
-}
-
-fn answer(rt: HostRuntime, shape: Shape, elements: usize, bytes: usize) -> io::Result<()> {
-    let mut table = vec![in rt.alloc(); Bit::zero(); elements]?;
-    let mut certificate = vec![in rt.alloc(); 0u8; bytes]?;
-    show(rt, work(shape, &mut table, &mut certificate))
-}
-
-fn answer_plainly(rt: HostRuntime, shape: Shape) -> io::Result<()> {
-    print!(rt; "{shape}: ")?;
-    answer(rt, shape, ELEMENTS, BYTES)
-}
-
-fn answer_wheels(rt: HostRuntime) -> io::Result<()> {
-    for rim in 3..12 {
-        answer_plainly(rt, Shape::Wheel(rim))?;
-    }
-    Ok(())
-}
-
-fn answer_within(rt: HostRuntime, shape: Shape, elements: usize, bytes: usize) -> io::Result<()> {
-    print!(rt; "{shape} with {elements} elements and {bytes} bytes: ")?;
-    answer(rt, shape, elements, bytes)
+fn answer_within(rt: HostRuntime, family: Family, lent: Lent) -> io::Result<()> {
+    let Lent { elements, bytes } = lent;
+    print!(rt; "{family} with {elements} elements and {bytes} bytes: ")?;
+    answer(rt, family, lent)
 }
 
 fn main(rt: HostRuntime) -> io::Result<()> {
-    answer_wheels(rt)?;
-    answer_plainly(rt, Shape::Grotzsch)?;
-    answer_plainly(rt, Shape::Complete(0))?;
-    answer_plainly(rt, Shape::Complete(3))?;
-    answer_plainly(rt, Shape::Complete(4))?;
-    answer_within(rt, Shape::Wheel(5), 23_730, BYTES)?;
-    answer_within(rt, Shape::Wheel(5), 23_729, BYTES)?;
-    answer_within(rt, Shape::Complete(4), 3_569, BYTES)?;
-    answer_within(rt, Shape::Complete(4), ELEMENTS, 62)?;
-    answer_within(rt, Shape::Complete(4), ELEMENTS, 63)
+    for rim in 3..12 {
+        answer_plainly(rt, Family::Wheel(rim))?;
+    }
+    for family in [
+        Family::Grotzsch,
+        Family::Complete(0),
+        Family::Complete(3),
+        Family::Complete(4),
+    ] {
+        answer_plainly(rt, family)?;
+    }
+    for elements in [23_730, 23_729] {
+        answer_within(rt, Family::Wheel(5), Lent { elements, ..AMPLE })?;
+    }
+    answer_within(
+        rt,
+        Family::Complete(4),
+        Lent {
+            elements: 3_569,
+            ..AMPLE
+        },
+    )?;
+    for bytes in [62, 63] {
+        answer_within(rt, Family::Complete(4), Lent { bytes, ..AMPLE })?;
+    }
+    Ok(())
 }

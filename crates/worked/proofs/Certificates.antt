@@ -1,5 +1,5 @@
 -- The certificates for four vertices that are all joined: what they add up to, and what their checks answer.
-use Rattle.std.proofs.Common.{◌≡◌, ℕ, ◌+◌, ◌<◌, ◌≤◌, Bool, true, false, not, T, eqb, ◌⊎◌, List, [], ◌∷◌, ◌++◌, length, replicate, sym, refl, ◌∙◌, subst, inl, inr, ⊎_elim, arith, lit<, lit≤, eqb→eq}
+use Rattle.std.proofs.Common.{◌≡◌, ℕ, ◌+◌, ◌<◌, ◌≤◌, Bool, true, false, not, T, eqb, ◌⊎◌, List, [], ◌∷◌, ◌++◌, length, replicate, sym, refl, ◌∙◌, subst, inl, inr, ⊎_elim, arith, lit<, lit≤, eqb→eq, Err}
 use Rattle.std.proofs.lemmas.Bool.{both_ways}
 use Rattle.fields.specs.Field.{Ops, Laws}
 use Rattle.fields.specs.Bit.{bit_ops, bit_laws}
@@ -17,7 +17,6 @@ use Rattle.certificates.specs.Grounds.{First, Clear}
 use Rattle.certificates.specs.Sizes.{products, rows}
 use Rattle.layout.specs.Reading.{byte, stands, before, Means}
 use Rattle.certificates.specs.Checking.{MalformedHeads, Others, BitPast, BadCode, Passes, faults}
-use Rattle.nulla.specs.declared.reply.Reply.TheVariants.{Refused}
 use Rattle.nulla.specs.State.{state}
 use Rattle.nulla.specs.Steps.{raising, passes, fails, refuses, answers}
 use Rattle.worked.specs.Examples.{power, Complete, certificate, whole, last_two, cubed, factored, Checked, Rejected, FieldExamples}
@@ -111,7 +110,7 @@ module _ {F : Type 0} {o : Ops F} (laws : Laws o) where
 
   -- a check that comes to its sum, which is not one
   not_one : (first last : ℕ) (codes : List ℕ) → Known laws first last codes → (Passes o 4 (plain o.one 4 all) (certificate o.size first last codes) → ⊥) →
-      Checked o (certificate o.size first last codes) (Refused NotOne)
+      Checked o (certificate o.size first last codes) (Err NotOne)
   not_one first last codes known other f d b m joined l =
       let bytes = certificate o.size first last codes in
       answers (on (λ eqs. Clear (faults o 4 eqs bytes m.table)) f joined (clear laws first last codes known m.table l))

@@ -1,6 +1,6 @@
 -- Worked examples of the definitions: a rank, sizes, three sums and products of codes, a polynomial in factors, and calls on four vertices that
 -- are all joined: checks of a certificate, whole and spoiled, and refusals. Assumes nothing.
-use Rattle.std.specs.Prelude.{◌≡◌, ℕ, ◌<◌, ◌≤◌, Bool, true, false, List, [], ◌∷◌, ◌++◌, length, replicate, slice_set}
+use Rattle.std.specs.Prelude.{◌≡◌, ℕ, ◌<◌, ◌≤◌, Bool, true, false, List, [], ◌∷◌, ◌++◌, length, replicate, slice_set, Ok, Err}
 use Rattle.fields.specs.declared.four.Four.{Four}
 use Rattle.fields.specs.Field.{Ops}
 use Rattle.fields.specs.Bit.{bit_ops}
@@ -17,8 +17,8 @@ use Rattle.layout.specs.Length.{certificate_bytes}
 use Rattle.certificates.specs.Sizes.{products, rows, cells}
 use Rattle.layout.specs.Reading.{Means}
 use Rattle.certificates.specs.Outcome.{Memory}
-use Rattle.nulla.specs.declared.reply.Reply.{Reply}
-use Rattle.nulla.specs.declared.reply.Reply.TheVariants.{Passed, Refused}
+use Rattle.nulla.specs.Replies.{Reply}
+use Rattle.nulla.specs.declared.reply.Answer.TheVariants.{Passed}
 use Rattle.nulla.specs.Requests.{Request, add_edge, raise_degree, check_certificate}
 use Rattle.nulla.specs.State.{State, state}
 use Rattle.nulla.specs.Steps.{summed, Step}
@@ -67,7 +67,7 @@ module _ {F : Type 0} (o : Ops F) where
 
   -- a call is refused on a ground, and changes nothing
   abbrev pub Refuses : Request → State → Memory F → Refusal → Type 0
-  Refuses q s m r = Called q s m (Refused r) s m
+  Refuses q s m r = Called q s m (Err r) s m
 
   -- a check of the bytes on any such graph, with any table of at least 70 elements, answers a, leaves zeros in the first 70, and else changes nothing
   abbrev pub Checked : List ℕ → Reply → Type 0
@@ -90,11 +90,11 @@ module _ {F : Type 0} (o : Ops F) where
     -- four vertices that are all joined have ten equations
     pub ten : (f : ℕ → ℕ → Bool) → Complete f → length (plain o.one 4 f) ≡ 10
     -- the whole certificate passes
-    pub passes : Checked (whole o.size) Passed
+    pub passes : Checked (whole o.size) (Ok Passed)
     -- without product 48 the sum is not one
-    pub no_last : Checked (without_last o.size) (Refused NotOne)
+    pub no_last : Checked (without_last o.size) (Err NotOne)
     -- without product 0 it is not one either
-    pub no_first : Checked (without_first o.size) (Refused NotOne)
+    pub no_first : Checked (without_first o.size) (Err NotOne)
     -- but v_0^3
     pub cube : Sums (without_first o.size) (cubed 0 ∷ [])
     -- a raise to degree 1 on such a graph wants a table of 3,570 elements

@@ -4,8 +4,6 @@
 ghost use Rattle.worked.specs.Examples.{Examples};
 
 /// The examples hold.
-pub fn examples_hold() -> u8
+pub fn examples_hold()
     ensures { Examples }
-{
-    0
-}
+{}

@@ -1,8 +1,10 @@
 // A grid of cells in a slice that is lent to it: the methods hand the slice to the functions of elimination. Each method tests
-// whether the slice has room for the grid, and where it has not, does nothing.
-ghost use Rattle.std.specs.Prelude.{◌≡◌, ◌-◌, ◌≤◌, true, false};
+// whether the slice has room for the grid, and where it has not, does nothing. `Held` stands in each contract that changes a grid: it says
+// of the grid after the call that it still holds the loan it had, which the type of one grid cannot say. No call fails, so that a slice has room
+// is no invariant either: without room there is no rank and no solution, and zero is read.
+ghost use Rattle.std.specs.Prelude.{◌≡◌, ◌-◌, ◌≤◌, ◌↔◌, IsTrue, true, false};
 ghost use Rattle.algebra.specs.Grid.{Kept};
-ghost use Rattle.algebra.specs.Held.{held, Roomy, Held, Got, Put, Untouched, BlankGrid, EliminatedGrid, ReadGrid, SolvedGrid};
+ghost use Rattle.algebra.specs.Held.{held, Roomy, Held, Inside, Got, Put, Untouched, BlankGrid, EliminatedGrid, ReadGrid, SolvedGrid};
 
 use super::{clear, eliminate, read_cell, read_solution, solve, write_cell};
 use fields::Field;
@@ -29,20 +31,26 @@ impl<'a, F: Field> Grid<'a, F> {
         ensures yes { result ≡ true → Roomy self.now }
         ensures no { result ≡ false → Roomy self.now → ⊥ }
     {
-        if self.rows == 0 || self.cols == 0 {
-            return false;
-        }
-        match self.rows.checked_mul(self.cols) {
-            Some(size) => size <= self.cells.len(),
-            None => false,
-        }
+        self.rows > 0
+            && self.cols > 0
+            && self
+                .rows
+                .checked_mul(self.cols)
+                .is_some_and(|size| size <= self.cells.len())
+    }
+
+    // Whether the grid has such a row and such a column.
+    fn contains(&self, row: usize, col: usize) -> bool
+        ensures { IsTrue result ↔ Inside self.now row col }
+    {
+        row < self.rows && col < self.cols && self.fits()
     }
 
     /// The cell of a row and a column; zero where the grid has none.
     pub fn get(&self, row: usize, col: usize) -> F
         ensures { Got F.ops self.now row col result }
     {
-        if row < self.rows && col < self.cols && self.fits() {
+        if self.contains(row, col) {
             read_cell(self.cells, self.cols, row, col)
         } else {
             F::zero()
@@ -54,9 +62,8 @@ impl<'a, F: Field> Grid<'a, F> {
         ensures held { Held self.old self.new }
         ensures cell { Put self.old self.new row col x }
     {
-        if row < self.rows && col < self.cols && self.fits() {
-            let cols = self.cols;
-            write_cell(self.cells, cols, row, col, x);
+        if self.contains(row, col) {
+            write_cell(self.cells, self.cols, row, col, x);
         }
     }
 
@@ -67,9 +74,7 @@ impl<'a, F: Field> Grid<'a, F> {
         ensures refused { (Roomy self.old → ⊥) → Untouched self.old self.new }
     {
         if self.fits() {
-            let rows = self.rows;
-            let cols = self.cols;
-            clear(self.cells, rows, cols);
+            clear(self.cells, self.rows, self.cols);
         }
     }
 
@@ -79,12 +84,11 @@ impl<'a, F: Field> Grid<'a, F> {
         ensures done { Roomy self.old → EliminatedGrid F.ops self.old self.new result }
         ensures refused { (Roomy self.old → ⊥) → (result ≡ 0) × Untouched self.old self.new }
     {
-        if !self.fits() {
-            return 0;
+        if self.fits() {
+            eliminate(self.cells, self.rows, self.cols)
+        } else {
+            0
         }
-        let rows = self.rows;
-        let cols = self.cols;
-        eliminate(self.cells, rows, cols)
     }
 
     /// After elimination, with the rank that it returned: writes over the first row the coefficients by which the other columns give the last;
@@ -95,12 +99,7 @@ impl<'a, F: Field> Grid<'a, F> {
         ensures kept { Kept F.ops (self.old.cols - 1) (held self.old) (held self.new) }
         ensures refused { (Roomy self.old → rank ≤ self.old.rows → ⊥) → (result ≡ false) × Untouched self.old self.new }
     {
-        if rank > self.rows || !self.fits() {
-            return false;
-        }
-        let rows = self.rows;
-        let cols = self.cols;
-        read_solution(self.cells, rows, cols, rank)
+        rank <= self.rows && self.fits() && read_solution(self.cells, self.rows, self.cols, rank)
     }
 
     /// Writes over the first row the coefficients by which the other columns give the last; false where they do not.
@@ -109,11 +108,6 @@ impl<'a, F: Field> Grid<'a, F> {
         ensures done { Roomy self.old → SolvedGrid F.ops self.old self.new result }
         ensures refused { (Roomy self.old → ⊥) → (result ≡ false) × Untouched self.old self.new }
     {
-        if !self.fits() {
-            return false;
-        }
-        let rows = self.rows;
-        let cols = self.cols;
-        solve(self.cells, rows, cols)
+        self.fits() && solve(self.cells, self.rows, self.cols)
     }
 }

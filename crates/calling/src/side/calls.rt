@@ -8,7 +8,7 @@ use crate::script::reply_to;
 use crate::side::Side;
 use crate::text::text_for;
 use coloring::encoding::Encoding;
-use nulla::{Reply, Solver};
+use nulla::Reply;
 use std::alloc::{AllocError, Global};
 
 impl<E: Encoding> Side<E, E::Coeff> {
@@ -22,9 +22,7 @@ impl<E: Encoding> Side<E, E::Coeff> {
         ensures { New encoding table.items certificate.items given.items result }
     {
         Side {
-            solver: Solver::new(encoding),
-            table,
-            certificate,
+            side: certifying::side::Side::new(encoding, table, certificate),
             given,
         }
     }
@@ -34,15 +32,17 @@ impl<E: Encoding> Side<E, E::Coeff> {
         ensures { Turned E.Coeff.ops E.lists line.now self.old result self.new }
     {
         reply_to(
-            &mut self.solver,
+            &mut self.side.solver,
             line,
             &mut self.given,
-            &mut self.table,
-            &mut self.certificate,
+            &mut self.side.table,
+            &mut self.side.certificate,
         )
     }
 }
 
+// `certifying` has a function of this shape for its own sides. One for both would take the side's reply and the text as parameters, and
+// they are all that it does.
 /// Makes the call that a line says on two sides, and gives the text for the line.
 pub fn answer_line<P: Encoding, Q: Encoding>(
     heap: Global,
@@ -50,9 +50,10 @@ pub fn answer_line<P: Encoding, Q: Encoding>(
     bits: &mut Side<P, P::Coeff>,
     four: &mut Side<Q, Q::Coeff>,
 ) -> Result<String, AllocError>
-    ensures { Both (λ a. Turned P.Coeff.ops P.lists line.now bits.old a bits.new) (λ b. Turned Q.Coeff.ops Q.lists line.now four.old b four.new) (λ a b. IfOk result (λ t. Text line.now a b bits.new.certificate.items four.new.certificate.items (string_bytes t))) }
+    ensures { Both (λ a. Turned P.Coeff.ops P.lists line.now bits.old a bits.new) (λ b. Turned Q.Coeff.ops Q.lists line.now four.old b four.new) (λ a b. IfOk result (λ t. Text line.now a b bits.new.side.certificate.items four.new.side.certificate.items (string_bytes t))) }
 {
     let one = bits.reply(line);
     let other = four.reply(line);
-    text_for(heap, line, one, other, &bits.certificate, &four.certificate)
+    let (first, second) = (&bits.side.certificate, &four.side.certificate);
+    text_for(heap, line, one, other, first, second)
 }

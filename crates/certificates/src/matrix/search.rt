@@ -3,13 +3,12 @@
 ghost use Rattle.std.specs.Prelude.{◌≡◌, ℕ, ◌+◌, ◌*◌, ◌<◌, ◌≤◌, ◌++◌, length, drop, replicate};
 ghost use Rattle.algebra.specs.Grid.{Kept};
 ghost use Rattle.coloring.specs.Encoding.{over};
-ghost use Rattle.certificates.specs.Measures.{Measured};
-ghost use Rattle.certificates.specs.Outcome.{memory, Sought};
+ghost use Rattle.certificates.specs.Outcome.{memory};
 ghost use Rattle.certificates.specs.Grounds.{Works};
 
-use super::solve;
 use crate::refusal::Refusal;
-use crate::sizes::{Sizes, fit};
+use crate::sizes::fit;
+use crate::system::System;
 use crate::verdict::Verdict;
 use algebra::Grid;
 use coloring::encoding::Encoding;
@@ -17,32 +16,28 @@ use fields::Field;
 use graphs::Graph;
 use layout::write;
 
-// Looks for a certificate, and writes it if there is one.
-fn seek<E: Encoding>(
-    encoding: &E,
-    graph: &Graph,
-    sizes: Sizes,
-    table: &mut [E::Coeff],
-    certificate: &mut [u8],
-) -> Option<usize>
-    requires narrow { sizes.degree ≤ 48 }
-    requires measured { Measured (length (over (E.lists encoding.now) graph.now)) graph.now.vertices sizes.degree sizes }
-    requires table { sizes.cells ≤ length table.old }
-    requires bytes { sizes.bytes ≤ length certificate.old }
-    ensures sought { Sought E.Coeff.ops graph.now.vertices sizes.degree (over (E.lists encoding.now) graph.now) certificate.old result certificate.new }
-    ensures kept { Kept E.Coeff.ops sizes.cells table.old table.new }
-{
-    if !solve(encoding, graph, sizes, table) {
-        return None;
+impl<E: Encoding> System<'_, E> {
+    ghost use Rattle.certificates.specs.System.{IsSought};
+
+    // Looks for a certificate, and writes it if there is one.
+    fn seek(&self, table: &mut [E::Coeff], certificate: &mut [u8]) -> Option<usize>
+        requires table { self.now.sizes.cells ≤ length table.old }
+        requires bytes { self.now.sizes.bytes ≤ length certificate.old }
+        ensures sought { IsSought self.now certificate.old result certificate.new }
+        ensures kept { Kept E.Coeff.ops self.now.sizes.cells table.old table.new }
+    {
+        if !self.solve(table) {
+            return None;
+        }
+        let sizes = self.sizes;
+        write(
+            &table[..sizes.products],
+            sizes.vertices,
+            sizes.degree,
+            sizes.equations,
+            certificate,
+        )
     }
-    let products = sizes.products;
-    write(
-        &table[0..products],
-        sizes.vertices,
-        sizes.degree,
-        sizes.equations,
-        certificate,
-    )
 }
 
 // Leaves zeros where the matrix was.
@@ -67,10 +62,14 @@ pub fn work<E: Encoding>(
     ensures { Works E.Coeff.ops graph.now.vertices degree (over (E.lists encoding.now) graph.now) (memory table.old certificate.old) result (memory table.new certificate.new) }
 {
     let sizes = fit(encoding, graph, degree, table.len(), certificate.len())?;
-    let found = seek(encoding, graph, sizes, table, certificate);
+    let system = System {
+        encoding,
+        graph,
+        sizes,
+    };
+    let found = system.seek(table, certificate);
     wipe(table, sizes.rows, sizes.products + 1);
-    match found {
-        Some(length) => Ok(Verdict::Infeasible { degree, length }),
-        None => Ok(Verdict::Open { degree }),
-    }
+    Ok(found.map_or(Verdict::Open { degree }, |length| {
+        Verdict::Infeasible { degree, length }
+    }))
 }

@@ -3,10 +3,11 @@ ghost use Rattle.std.specs.Prelude.{IfOk, string_bytes};
 ghost use Rattle.certifying.specs.Text.{Answer};
 ghost use Rattle.certifying.specs.Sides.{New, Turned, Both};
 
-use crate::side::{Side, reply_to};
+use crate::side::Side;
 use crate::text::answer;
 use coloring::encoding::Encoding;
 use nulla::{Reply, Solver};
+use plan::answers::reply_to;
 use std::alloc::{AllocError, Global};
 
 impl<E: Encoding> Side<E, E::Coeff> {

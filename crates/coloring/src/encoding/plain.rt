@@ -7,16 +7,17 @@ ghost use Rattle.coloring.specs.Equations.{cube, edge, plain};
 ghost use Rattle.coloring.specs.Absent.{absent};
 ghost use Rattle.coloring.specs.Bounds.{plain_bounded};
 ghost use Rattle.coloring.specs.Kept.{plain_lawful};
+ghost use Rattle.coloring.specs.Pairs.{ends};
 
 use crate::encoding::Encoding;
-use crate::pairs::{Pair, count_pairs, find_pair};
+use crate::pairs::{count_pairs, find_pair};
 use fields::Field;
-use graphs::Graph;
+use graphs::{Edge, Graph};
 use polynomials::Term;
 use std::marker::PhantomData;
 
 /// A cube for each vertex, and then an edge for each joined pair.
-#[derive(Copy, Clone)]
+#[derive(Clone, Copy, Debug, PartialEq, Eq, Hash)]
 pub struct Plain<F> {
     field: PhantomData<F>,
 }
@@ -37,6 +38,15 @@ impl<F: Field> Plain<F> {
     }
 }
 
+// A derive would ask a `Default` of the field.
+impl<F: Field> Default for Plain<F> {
+    ghost is_default = { λ p. p ≡ record { field = record {} } };
+
+    fn default() -> Plain<F> {
+        Plain::new()
+    }
+}
+
 /// A term of v_i^3 + 1.
 fn cube_term<F: Field>(i: u8, index: usize) -> Term<F>
     requires { i < 24 }
@@ -50,14 +60,13 @@ fn cube_term<F: Field>(i: u8, index: usize) -> Term<F>
 }
 
 /// A term of v_i^2 + v_i v_j + v_j^2.
-fn edge_term<F: Field>(pair: Pair, index: usize) -> Term<F>
-    requires { (pair.low < 24) × (pair.high < 24) }
-    ensures { result ≡ slice_index_or (edge F.ops.one pair) index (absent F.ops) }
+fn edge_term<F: Field>(pair: Edge, index: usize) -> Term<F>
+    ensures { result ≡ slice_index_or (edge F.ops.one (ends pair)) index (absent F.ops) }
 {
     match index {
-        0 => super::monomial(super::power(pair.low, 2)),
-        1 => super::monomial(super::product(pair.low, pair.high)),
-        2 => super::monomial(super::power(pair.high, 2)),
+        0 => super::monomial(super::power(pair.lower(), 2)),
+        1 => super::monomial(super::product(pair.lower(), pair.higher())),
+        2 => super::monomial(super::power(pair.higher(), 2)),
         _ => super::no_term(),
     }
 }
@@ -78,28 +87,22 @@ impl<F: Field> Encoding for Plain<F> {
     }
 
     fn count(&self, graph: &Graph) -> usize {
-        graph.vertices() as usize + count_pairs(graph)
+        usize::from(graph.vertices()) + count_pairs(graph)
     }
 
     fn terms(&self, graph: &Graph, equation: usize) -> usize {
-        let n = graph.vertices() as usize;
+        let n = usize::from(graph.vertices());
         if equation < n {
             return CUBE_TERMS;
         }
-        match find_pair(graph, equation - n) {
-            Some(_) => EDGE_TERMS,
-            None => 0,
-        }
+        find_pair(graph, equation - n).map_or(0, |_| EDGE_TERMS)
     }
 
     fn term(&self, graph: &Graph, equation: usize, index: usize) -> Term<F> {
-        let n = graph.vertices() as usize;
+        let n = usize::from(graph.vertices());
         if equation < n {
             return cube_term(equation as u8, index);
         }
-        match find_pair(graph, equation - n) {
-            Some(pair) => edge_term(pair, index),
-            None => super::no_term(),
-        }
+        find_pair(graph, equation - n).map_or(super::no_term(), |pair| edge_term(pair, index))
     }
 }

@@ -1,12 +1,12 @@
 // An encoding with an equation more for each triangle. It follows from those of the triangle's edges, and saves
 // degree: what else takes multiples of higher degree to say is one of the equations.
 
-ghost use Rattle.std.specs.Prelude.{◌≡◌, ℕ, ◌<◌, length, IfSome, slice_index_or};
+ghost use Rattle.std.specs.Prelude.{◌≡◌, ℕ, ◌<◌, ◌≤◌, ◌↔◌, IsTrue, length, slice_index_or};
+ghost use Rattle.std.specs.List.{slice_get};
 ghost use Rattle.coloring.specs.Encoding.{over};
 ghost use Rattle.coloring.specs.Equations.{squares, with_triangles};
-ghost use Rattle.coloring.specs.Pairs.{at};
 ghost use Rattle.coloring.specs.Absent.{absent};
-ghost use Rattle.coloring.specs.Triangles.{chosen, raised};
+ghost use Rattle.coloring.specs.Triangles.{chosen, raised, room};
 ghost use Rattle.coloring.specs.Added.{added_bounded, added_lawful};
 
 use crate::encoding::Encoding;
@@ -16,7 +16,7 @@ use graphs::Graph;
 use polynomials::Term;
 
 /// The equations of another encoding, and then one for each triangle where there is room for all of them.
-#[derive(Copy, Clone)]
+#[derive(Clone, Copy, Debug, PartialEq, Eq, Hash)]
 pub struct Triangles<E> {
     base: E,
 }
@@ -37,21 +37,25 @@ impl<E: Encoding> Triangles<E> {
         Triangles { base }
     }
 
-    fn triangle(&self, graph: &Graph, wanted: usize) -> Option<Triangle>
-        ensures value { result ≡ at (over (chosen (E.high self.now.base)) graph.now) wanted }
-        ensures small { IfSome result (λ t. (t.low < 24) × (t.middle < 24) × (t.high < 24)) }
+    fn has_room(&self) -> bool
+        ensures { IsTrue result ↔ (E.high self.now.base ≤ room) }
     {
-        if self.base.most() > ROOM {
-            None
-        } else {
+        self.base.most() <= ROOM
+    }
+
+    fn triangle(&self, graph: &Graph, wanted: usize) -> Option<Triangle>
+        ensures { result ≡ slice_get (over (chosen (E.high self.now.base)) graph.now) wanted }
+    {
+        if self.has_room() {
             find_triangle(graph, wanted)
+        } else {
+            None
         }
     }
 }
 
 /// A term of v_i^2 + v_j^2 + v_k^2.
 fn squares_term<F: Field>(triangle: Triangle, index: usize) -> Term<F>
-    requires { (triangle.low < 24) × ((triangle.middle < 24) × (triangle.high < 24)) }
     ensures { result ≡ slice_index_or (squares F.ops.one triangle) index (absent F.ops) }
 {
     match index {
@@ -75,19 +79,19 @@ impl<E: Encoding> Encoding for Triangles<E> {
 
     fn most(&self) -> usize {
         let below = self.base.most();
-        if below > ROOM {
-            below
-        } else {
+        if self.has_room() {
             below + TRIANGLES
+        } else {
+            below
         }
     }
 
     fn count(&self, graph: &Graph) -> usize {
         let below = self.base.count(graph);
-        if self.base.most() > ROOM {
-            below
-        } else {
+        if self.has_room() {
             below + count_triangles(graph)
+        } else {
+            below
         }
     }
 
@@ -96,10 +100,8 @@ impl<E: Encoding> Encoding for Triangles<E> {
         if equation < below {
             return self.base.terms(graph, equation);
         }
-        match self.triangle(graph, equation - below) {
-            Some(_) => SQUARES,
-            None => 0,
-        }
+        self.triangle(graph, equation - below)
+            .map_or(0, |_| SQUARES)
     }
 
     fn term(&self, graph: &Graph, equation: usize, index: usize) -> Term<E::Coeff> {
@@ -107,9 +109,7 @@ impl<E: Encoding> Encoding for Triangles<E> {
         if equation < below {
             return self.base.term(graph, equation, index);
         }
-        match self.triangle(graph, equation - below) {
-            Some(triangle) => squares_term(triangle, index),
-            None => super::no_term(),
-        }
+        self.triangle(graph, equation - below)
+            .map_or(super::no_term(), |triangle| squares_term(triangle, index))
     }
 }

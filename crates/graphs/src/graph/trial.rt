@@ -26,7 +26,7 @@ impl Drop for Trial<'_> {
             lower,
             saved,
         } = self;
-        graph.rows[lower as usize] = saved;
+        graph.rows[usize::from(lower)] = saved;
     }
 }
 
@@ -40,7 +40,7 @@ impl<'a> Trial<'a> {
         ensures saved { result.saved ≡ slice_index_or graph.old.rows edge.lower blank }
     {
         let lower = edge.lower();
-        let saved = graph.rows[lower as usize];
+        let saved = graph.rows[usize::from(lower)];
         graph.join(edge);
         Trial {
             graph,

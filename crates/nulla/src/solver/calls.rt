@@ -1,14 +1,17 @@
-// The calls on a solver. Each looks at its grounds for refusal in their order before anything changes.
+// The calls on a solver. Each looks at its grounds for refusal in their order before anything changes. Table and certificate are two
+// slices that callers lend: a struct of both would owe, after each call, that it still holds the loans that it was given.
 ghost use Rattle.std.specs.Prelude.{◌≡◌, ℕ, ◌+◌, ◌*◌, ◌<◌, ◌≤◌, min, max, true, false, List, length, if◌then◌else◌, MatchResult};
+ghost use Rattle.nulla.specs.Standing.{Kept};
 ghost use Rattle.nulla.specs.State.{state_of, fresh};
 ghost use Rattle.certificates.specs.Outcome.{Memory, memory};
 ghost use Rattle.certificates.specs.Grounds.{First, Clear};
-ghost use Rattle.nulla.specs.Steps.{Step, ends};
+ghost use Rattle.nulla.specs.Called.{Called};
+ghost use Rattle.nulla.specs.Steps.{ends};
 ghost use Rattle.nulla.specs.Replies.{opened, done, said, passed};
 ghost use Rattle.nulla.specs.Requests.{request_of, open_vertex, add_edge, remove_edge, raise_degree, try_edge, check_certificate};
 
 use crate::call::Call;
-use crate::reply::Reply;
+use crate::reply::{Answer, Reply};
 use crate::solver::Solver;
 use certificates::{Refusal, Verdict, check, work};
 use coloring::encoding::Encoding;
@@ -22,11 +25,17 @@ const FIRST_DEGREE: usize = 1;
 
 const LAST_DEGREE: usize = 48;
 
+/// No degree is worked yet.
+const UNWORKED: Verdict = Verdict::Open { degree: 0 };
+
 // What an open solver has reached is void once its graph has grown; what shows infeasible still does.
-fn kept(degree: u8, infeasible: bool) -> u8
-    ensures { result ≡ (if infeasible then degree else 0) }
+fn kept(standing: Verdict) -> Verdict
+    ensures { Kept standing result }
 {
-    if infeasible { degree } else { 0 }
+    match standing {
+        Verdict::Infeasible { .. } => standing,
+        Verdict::Open { .. } => UNWORKED,
+    }
 }
 
 impl<E: Encoding> Solver<E> {
@@ -38,21 +47,16 @@ impl<E: Encoding> Solver<E> {
         Solver {
             encoding,
             graph: Graph::new(),
-            degree: 0,
-            infeasible: false,
+            standing: UNWORKED,
         }
     }
 
     /// Opens the next vertex, and gives its number.
     pub fn open_vertex(&mut self) -> Result<u8, Refusal>
-        ensures step { (m : Memory E.Coeff) → Step E.Coeff.ops (E.lists self.old.encoding) open_vertex (state_of self.old) m (opened result) (state_of self.new) m }
-        ensures encoding { self.new.encoding ≡ self.old.encoding }
+        ensures { (m : Memory E.Coeff) → Called E.Coeff.ops E.lists open_vertex self.old m (opened result) self.new m }
     {
-        let number = self.graph.vertices();
-        if !self.graph.open() {
-            return Err(Refusal::NoVertexLeft);
-        }
-        self.degree = kept(self.degree, self.infeasible);
+        let number = self.graph.open().ok_or(Refusal::NoVertexLeft)?;
+        self.standing = kept(self.standing);
         Ok(number)
     }
 
@@ -67,38 +71,32 @@ impl<E: Encoding> Solver<E> {
         if i >= open || j >= open {
             return Err(Refusal::NoSuchVertex);
         }
-        match Edge::between(i, j) {
-            Some(edge) => Ok(edge),
-            None => Err(Refusal::SameVertex),
-        }
+        Edge::between(i, j).ok_or(Refusal::SameVertex)
     }
 
     /// Adds the edge between two open vertices, given in either order.
     pub fn add_edge(&mut self, i: usize, j: usize) -> Result<(), Refusal>
-        ensures step { (m : Memory E.Coeff) → Step E.Coeff.ops (E.lists self.old.encoding) (add_edge i j) (state_of self.old) m (done result) (state_of self.new) m }
-        ensures encoding { self.new.encoding ≡ self.old.encoding }
+        ensures { (m : Memory E.Coeff) → Called E.Coeff.ops E.lists (add_edge i j) self.old m (done result) self.new m }
     {
         let edge = self.edge(i, j)?;
         if self.graph.joins(edge) {
             return Err(Refusal::AlreadyJoined);
         }
         self.graph.join(edge);
-        self.degree = kept(self.degree, self.infeasible);
+        self.standing = kept(self.standing);
         Ok(())
     }
 
     /// Removes the edge between two open vertices, given in either order.
     pub fn remove_edge(&mut self, i: usize, j: usize) -> Result<(), Refusal>
-        ensures step { (m : Memory E.Coeff) → Step E.Coeff.ops (E.lists self.old.encoding) (remove_edge i j) (state_of self.old) m (done result) (state_of self.new) m }
-        ensures encoding { self.new.encoding ≡ self.old.encoding }
+        ensures { (m : Memory E.Coeff) → Called E.Coeff.ops E.lists (remove_edge i j) self.old m (done result) self.new m }
     {
         let edge = self.edge(i, j)?;
         if !self.graph.joins(edge) {
             return Err(Refusal::NotJoined);
         }
         self.graph.part(edge);
-        self.degree = 0;
-        self.infeasible = false;
+        self.standing = UNWORKED;
         Ok(())
     }
 
@@ -108,16 +106,13 @@ impl<E: Encoding> Solver<E> {
         table: &mut [E::Coeff],
         certificate: &mut [u8],
     ) -> Result<Verdict, Refusal>
-        ensures step { Step E.Coeff.ops (E.lists self.old.encoding) raise_degree (state_of self.old) (memory table.old certificate.old) (said result) (state_of self.new) (memory table.new certificate.new) }
-        ensures encoding { self.new.encoding ≡ self.old.encoding }
+        ensures { Called E.Coeff.ops E.lists raise_degree self.old (memory table.old certificate.old) (said result) self.new (memory table.new certificate.new) }
     {
-        if self.infeasible {
+        let Verdict::Open { degree } = self.standing else {
             return Err(Refusal::AlreadyInfeasible);
-        }
-        let degree = self.degree + 1;
-        let verdict = work(&self.encoding, &self.graph, degree, table, certificate)?;
-        self.degree = degree;
-        self.infeasible = verdict.is_infeasible();
+        };
+        let verdict = work(&self.encoding, &self.graph, degree + 1, table, certificate)?;
+        self.standing = verdict;
         Ok(verdict)
     }
 
@@ -131,7 +126,7 @@ impl<E: Encoding> Solver<E> {
         table: &mut [E::Coeff],
         certificate: &mut [u8],
     ) -> Result<Verdict, Refusal>
-        ensures step { Step E.Coeff.ops (E.lists self.old.encoding) (try_edge i j degree) (state_of self.old) (memory table.old certificate.old) (said result) (state_of self.new) (memory table.new certificate.new) }
+        ensures called { Called E.Coeff.ops E.lists (try_edge i j degree) self.old (memory table.old certificate.old) (said result) self.new (memory table.new certificate.new) }
         ensures same { self.new ≡ self.old }
     {
         if degree < FIRST_DEGREE || degree > LAST_DEGREE {
@@ -142,56 +137,36 @@ impl<E: Encoding> Solver<E> {
             return Err(Refusal::AlreadyJoined);
         }
         let trial = Trial::begin(&mut self.graph, edge);
-        let verdict = work(
+        work(
             &self.encoding,
             trial.graph(),
             degree as u8,
             table,
             certificate,
-        )?;
-        Ok(verdict)
+        )
     }
 
     /// Passes a certificate exactly when the products of the solver's equations, each by the coefficient that the certificate gives it, add up to
     /// one.
     pub fn check(&self, certificate: &[u8], table: &mut [E::Coeff]) -> Result<(), Refusal>
-        ensures { (c : List ℕ) → Step E.Coeff.ops (E.lists self.now.encoding) (check_certificate certificate.now) (state_of self.now) (memory table.old c) (passed result) (state_of self.now) (memory table.new c) }
+        ensures { (c : List ℕ) → Called E.Coeff.ops E.lists (check_certificate certificate.now) self.now (memory table.old c) (passed result) self.now (memory table.new c) }
     {
         check(&self.encoding, &self.graph, certificate, table)
     }
 
     /// Makes a call that is written down.
     pub fn make(&mut self, call: Call<'_>, table: &mut [E::Coeff], certificate: &mut [u8]) -> Reply
-        ensures step { Step E.Coeff.ops (E.lists self.old.encoding) (request_of call.entry) (state_of self.old) (memory table.old certificate.old) result (state_of self.new) (memory table.new certificate.new) }
-        ensures encoding { self.new.encoding ≡ self.old.encoding }
+        ensures { Called E.Coeff.ops E.lists (request_of call.entry) self.old (memory table.old certificate.old) result self.new (memory table.new certificate.new) }
     {
         match call {
-            Call::OpenVertex => match self.open_vertex() {
-                Ok(vertex) => Reply::Opened(vertex),
-                Err(refusal) => Reply::Refused(refusal),
-            },
-            Call::AddEdge(i, j) => match self.add_edge(i, j) {
-                Ok(()) => Reply::Done,
-                Err(refusal) => Reply::Refused(refusal),
-            },
-            Call::RemoveEdge(i, j) => match self.remove_edge(i, j) {
-                Ok(()) => Reply::Done,
-                Err(refusal) => Reply::Refused(refusal),
-            },
-            Call::Raise => match self.raise(table, certificate) {
-                Ok(Verdict::Infeasible { degree, length }) => Reply::Infeasible { degree, length },
-                Ok(Verdict::Open { degree }) => Reply::Open { degree },
-                Err(refusal) => Reply::Refused(refusal),
-            },
-            Call::TryEdge(i, j, degree) => match self.try_edge(i, j, degree, table, certificate) {
-                Ok(Verdict::Infeasible { degree, length }) => Reply::Infeasible { degree, length },
-                Ok(Verdict::Open { degree }) => Reply::Open { degree },
-                Err(refusal) => Reply::Refused(refusal),
-            },
-            Call::Check(bytes) => match self.check(bytes, table) {
-                Ok(()) => Reply::Passed,
-                Err(refusal) => Reply::Refused(refusal),
-            },
+            Call::OpenVertex => self.open_vertex().map(Answer::Opened),
+            Call::AddEdge(i, j) => self.add_edge(i, j).map(|()| Answer::Done),
+            Call::RemoveEdge(i, j) => self.remove_edge(i, j).map(|()| Answer::Done),
+            Call::Raise => self.raise(table, certificate).map(Answer::Worked),
+            Call::TryEdge(i, j, degree) => self
+                .try_edge(i, j, degree, table, certificate)
+                .map(Answer::Worked),
+            Call::Check(bytes) => self.check(bytes, table).map(|()| Answer::Passed),
         }
     }
 }

@@ -1,19 +1,11 @@
-use Rattle.std.proofs.Common.{◌^◌, ◌<◌, ◌≤◌, replicate, sym, refl, ap, subst, arith, w64, rules}
-use Rattle.std.proofs.lemmas.Int.{to_z_pos}
-use Rattle.plan.specs.Solving.{store, Blank}
-use Rattle.plan.specs.Plans.{Entry}
-use Rattle.plan.proofs.Turns.{answer_small, entry_written, entry_refused}
+use Rattle.std.proofs.Common.{replicate, refl, ap}
+use Rattle.plan.specs.Solving.{store}
 use Rattle.plan.proofs.tracks_plan.Goals as goal
 
-pub overflow_cast-result : goal.overflow_cast-result
-overflow_cast-result c = let small : c.in-Ok.length ≤ 36864 = answer_small c.in-Ok.ensures in search rules
-
-pub returns-in-Ok : goal.returns-in-Ok
-returns-in-Ok c =
-    let small : c.in-Ok.length ≤ 36864 = answer_small c.in-Ok.ensures in
-    let fits : c.in-Ok.length < 2 ^ 63 = omega arith in
-    let blank : Blank (store (replicate 65536 c.zero-table.result) (replicate 16384 0)) = record { table = ap (replicate 65536) c.zero-table.ensures; certificate = refl } in
-    subst (λ z. Entry c.args.plan.now c.args.text.now z c.answer.new.text) (sym (to_z_pos w64 c.in-Ok.length fits)) (entry_written blank c.in-Ok.ensures)
-
-pub returns-in-Err : goal.returns-in-Err
-returns-in-Err c = entry_refused c.number.result c.number.ensures c.in-Err.ensures
+pub returns : goal.returns
+returns c = record {
+  lent = store (replicate 65536 c.zero-table.result) (replicate 16384 0);
+  left = store c.answer.new.table c.answer.new.certificate;
+  blank = record { table = ap (replicate 65536) c.zero-table.ensures; certificate = refl };
+  answer = c.answer.ensures;
+}

@@ -1,9 +1,11 @@
-use Rattle.algebra.specs.Grid.{cell}
-use Rattle.algebra.proofs.Writes.{Part}
+use Rattle.std.proofs.Common.{◌≡◌, ℕ, ◌<◌, ◌≤◌, get_or}
 use Rattle.algebra.proofs.elimination.add_multiple.Given as goal
 
 abbrev pub invariant-loop-c : goal.invariant-loop-c
 invariant-loop-c g l =
     let o = g.F.Field.ops in
-    let xs = l.initial.cells in
-    Part o l.cols l.to l.c (λ c. o.add (cell o xs l.cols l.to c) (o.mul l.factor (cell o xs l.cols l.from c))) xs l.cells
+    let xs = l.initial.target in
+    record {
+      done : (k : ℕ) → k < l.c → get_or l.target k o.zero ≡ o.add (get_or xs k o.zero) (o.mul l.factor (get_or l.source k o.zero));
+      left : (k : ℕ) → l.c ≤ k → get_or l.target k o.zero ≡ get_or xs k o.zero;
+    }

@@ -1,34 +1,23 @@
-use Rattle.std.proofs.Common.{◌≡◌, ℕ, ◌∙◌, subst, arith}
-use Rattle.algebra.specs.Reduced.{ClearedRows}
-use Rattle.algebra.proofs.Places.{row_before}
-use Rattle.algebra.proofs.Clearing.{cleared_none, cleared_more}
+use Rattle.std.proofs.Common.{◌+◌, ◌-◌, ◌*◌, length, arith, rules}
+use Rattle.algebra.proofs.Places.{row_in, part_read, part_long}
+use Rattle.algebra.proofs.Clearing.{rows_before_more}
 use Rattle.algebra.proofs.elimination.clear_rows.Goals as goal
 
-pub loop-i-init : goal.loop-i-init
-loop-i-init g c = cleared_none g.F.Field.laws c.args.cols c.args.row c.args.col c.args.cells.now c.args.low
+pub offset_bounds-cells-row : goal.offset_bounds-cells-row
+offset_bounds-cells-row g c = let b = row_in c.loop-row.row (length c.args.cells.now) (length c.args.source.now) c.loop-row-test.true in search rules
 
-pub clear_cell-requires : goal.clear_cell-requires
-clear_cell-requires g c =
+pub loop-row-preserved : goal.loop-row-preserved
+loop-row-preserved g c =
+    let o = g.F.Field.ops in
     let a = c.args in
-    let l = c.loop-i in
-    record {
-      apart = λ e. c.requires.apart (omega arith) (omega arith);
-      source = omega arith;
-      target = omega (arith, row_before l.i a.high a.cols (omega arith));
-      column = c.requires.column;
-      blank = λ d h. l.invariant.outside a.row d (λ p q. c.requires.apart p (omega arith)) (omega arith) ∙ c.requires.blank d h;
-    }
-
-pub loop-i-preserved : goal.loop-i-preserved
-loop-i-preserved g c =
-    let a = c.args in
-    let l = c.loop-i in
-    cleared_more g.F.Field.laws a.cols a.row a.col a.cells.now a.low l.i l.cells c.clear_cell.new.cells (omega arith)
-    (λ p q. c.requires.apart p (omega arith)) c.requires.column c.requires.one l.invariant c.clear_cell.ensures
-
-pub returns : goal.returns
-returns g c =
-    let a = c.args in
-    let l = c.loop-i in
-    let e : l.i ≡ a.high = omega arith in
-    subst (λ (n : ℕ). ClearedRows g.F.Field.ops a.cols a.row a.col a.low n a.cells.now l.cells) e l.invariant
+    let l = c.loop-row in
+    let cols = length a.source.now in
+    let at = l.row * cols in
+    let n = at + cols - at in
+    let b = row_in l.row (length a.cells.now) cols c.loop-row-test.true in
+    rows_before_more o cols a.col l.row a.source.now a.cells.now l.cells c.clear_cell.new.target n (omega arith) (omega arith) (search rules) c.requires.column
+    (λ i m.
+    let x = part_read at n l.cells o.zero i (omega arith) in
+    let y = part_read at n l.cells o.zero a.col (omega (arith, c.requires.column)) in
+    let e = c.clear_cell.ensures i (omega (arith, part_long at n l.cells (omega arith))) in cc)
+    l.invariant

@@ -13,37 +13,10 @@ loop-col-init g c = (
   λ pivot reduced. walk_none g.F.Field.laws c.args.rows c.args.cols c.args.rank pivot c.args.cells.now reduced,
 )
 
-pub overflow_mul-cells : goal.overflow_mul-cells
-overflow_mul-cells g c =
-    let h = (c.begins_at.ensures.yes c.if-begins_at.true).0 in
-    let b = row_before c.loop-col.row c.args.rows c.args.cols (omega arith) in search rules
-
-pub overflow_add-cells : goal.overflow_add-cells
-overflow_add-cells g c =
-    let h = (c.begins_at.ensures.yes c.if-begins_at.true).0 in
-    let b = row_before c.loop-col.row c.args.rows c.args.cols (omega arith) in search rules
-
 pub offset_bounds-cells-row : goal.offset_bounds-cells-row
 offset_bounds-cells-row g c =
     let h = (c.begins_at.ensures.yes c.if-begins_at.true).0 in
     let b = row_before c.loop-col.row c.args.rows c.args.cols (omega arith) in search rules
-
-pub bounds-cells-row : goal.bounds-cells-row
-bounds-cells-row g c =
-    let h = (c.begins_at.ensures.yes c.if-begins_at.true).0 in
-    omega (arith, row_before c.loop-col.row c.args.rows c.args.cols (omega arith))
-
-pub offset_bounds-cells-col : goal.offset_bounds-cells-col
-offset_bounds-cells-col g c = let b = row_before 0 c.args.rows c.args.cols c.requires.fits.some_row in search rules
-
-pub bounds-cells-col : goal.bounds-cells-col
-bounds-cells-col g c = omega (arith, row_before 0 c.args.rows c.args.cols c.requires.fits.some_row)
-
-pub offset_bounds-cells-col-else-begins_at : goal.offset_bounds-cells-col-else-begins_at
-offset_bounds-cells-col-else-begins_at g c = let b = row_before 0 c.args.rows c.args.cols c.requires.fits.some_row in search rules
-
-pub bounds-cells-col-else-begins_at : goal.bounds-cells-col-else-begins_at
-bounds-cells-col-else-begins_at g c = omega (arith, row_before 0 c.args.rows c.args.cols c.requires.fits.some_row)
 
 pub loop-col-preserved : goal.loop-col-preserved
 loop-col-preserved g c =

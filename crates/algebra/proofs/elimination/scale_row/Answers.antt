@@ -1,15 +1,14 @@
-use Rattle.std.proofs.Common.{◌+◌, ◌*◌, arith}
-use Rattle.std.proofs.lemmas.List.{get_or_read}
-use Rattle.algebra.specs.Grid.{cell}
-use Rattle.algebra.proofs.Writes.{part_more}
+use Rattle.std.proofs.Common.{◌+◌, ◌-◌, ◌*◌, ◌∙◌, ap, arith, rules}
+use Rattle.algebra.proofs.Places.{part_read, part_long}
+use Rattle.algebra.proofs.Writes.{scaled_part}
 use Rattle.algebra.proofs.elimination.scale_row.Goals as goal
 
-pub loop-c-preserved : goal.loop-c-preserved
-loop-c-preserved g c =
+pub returns : goal.returns
+returns g c =
     let o = g.F.Field.ops in
     let a = c.args in
-    let l = c.loop-c in
-    let xs = a.cells.now in
-    let x = get_or_read l.cells (a.row * a.cols + l.c) c.index-cells-row.result (omega arith) c.index-cells-row.is o.zero in
-    let target = l.invariant.left l.c (omega arith) (omega arith) in
-    part_more o a.cols a.row (λ c. o.mul a.factor (cell o xs a.cols a.row c)) xs l.c l.cells c.mul.result (omega arith) (omega arith) l.invariant (cc)
+    let at = a.row * a.cols in
+    let n = at + a.cols - at in
+    let long = part_long at n a.cells.now (omega arith) in
+    scaled_part o a.cols a.row n a.factor a.cells.now c.loop-x.x-items (omega arith) c.requires (search rules)
+    (λ k h. c.loop-x.invariant.done k (omega arith) ∙ ap (o.mul a.factor) (part_read at n a.cells.now o.zero k h))

@@ -1,9 +1,11 @@
-use Rattle.algebra.specs.Grid.{cell}
-use Rattle.algebra.proofs.Writes.{Part}
+use Rattle.std.proofs.Common.{◌≡◌, ℕ, ◌<◌, ◌≤◌, get_or}
 use Rattle.algebra.proofs.elimination.scale_row.Given as goal
 
-abbrev pub invariant-loop-c : goal.invariant-loop-c
-invariant-loop-c g l =
+abbrev pub invariant-loop-x : goal.invariant-loop-x
+invariant-loop-x g l =
     let o = g.F.Field.ops in
-    let xs = l.initial.cells in
-    Part o l.cols l.row l.c (λ c. o.mul l.factor (cell o xs l.cols l.row c)) xs l.cells
+    let xs = l.initial.x-items in
+    record {
+      done : (k : ℕ) → k < l.x-index → get_or l.x-items k o.zero ≡ o.mul l.factor (get_or xs k o.zero);
+      left : (k : ℕ) → l.x-index ≤ k → get_or l.x-items k o.zero ≡ get_or xs k o.zero;
+    }

@@ -1,11 +1,11 @@
-use Rattle.std.proofs.Common.{arith}
-use Rattle.algebra.proofs.Writes.{crossed_more}
+use Rattle.std.proofs.Common.{◌+◌, ◌-◌, ◌*◌, arith}
+use Rattle.algebra.proofs.Writes.{swapped_parts}
 use Rattle.algebra.proofs.elimination.swap_rows.Goals as goal
 
-pub loop-c-preserved : goal.loop-c-preserved
-loop-c-preserved g c =
-    let o = g.F.Field.ops in
+pub returns-then-a-b : goal.returns-then-a-b
+returns-then-a-b g c =
     let a = c.args in
-    let l = c.loop-c in
-    let s = c.swap.ensures.by_index in
-    crossed_more o a.cols a.a a.b a.cells.now l.c l.cells c.swap.new.self (omega arith) l.invariant (s.0 o.zero) (s.1 o.zero) (λ k p q. s.2 k o.zero p q)
+    let p = c.split_at_mut-above in
+    let s = c.swap_with_slice in
+    swapped_parts g.F.Field.ops a.cols a.a a.b (a.a * a.cols + a.cols - a.a * a.cols) a.cells.now p.result.0.now p.result.1.now s.new.self s.new.other
+    (omega arith) c.requires.within (omega arith) p.ensures.front p.ensures.back s.ensures.after s.ensures.other_after

@@ -1,4 +1,5 @@
-use Rattle.std.proofs.Common.{refl}
+use Rattle.std.proofs.Common.{◌≡◌, Err, refl, rules}
+use Rattle.certificates.specs.declared.refusal.Refusal.TheVariants.{MalformedLine}
 use Rattle.plan.specs.Texts.{says, unsaid}
 use Rattle.calling.specs.Script.{turned}
 use Rattle.calling.proofs.Replying.{checked_turn, checked_holds, refused_turn, refused_holds, unchecked_fits, unchecked_holds, unchecked_unsaid}
@@ -20,18 +21,21 @@ returns-in-Some g c =
       encoding = c.make.ensures.encoding;
     }
 
-pub returns-in-Some-parse : goal.returns-in-Some-parse
-returns-in-Some-parse g c =
+pub returns-in_err-call : goal.returns-in_err-call
+returns-in_err-call g c =
+    let none = rw c.in_err-call.ensures.ok_part at c.parse.ensures in
+    let ground : c.from_residual.result ≡ Err MalformedLine = search rules in
     record {
-      replied = turned (unchecked_fits _ c.in_default.ensures) (says c.in-Some-parse.ensures.0 c.make-in-Some-parse.ensures.step);
-      holds = unchecked_holds c.args.given.now c.in_default.ensures;
-      encoding = c.make-in-Some-parse.ensures.encoding;
-    }
-
-pub returns-in-None : goal.returns-in-None
-returns-in-None g c =
-    record {
-      replied = turned (unchecked_fits _ c.in_default.ensures) (unsaid (unchecked_unsaid c.in_default.ensures c.in-None.ensures));
+      replied = rw ground (turned (unchecked_fits _ c.in_default.ensures) (unsaid (unchecked_unsaid c.in_default.ensures none)));
       holds = unchecked_holds c.args.given.now c.in_default.ensures;
       encoding = refl;
+    }
+
+pub returns : goal.returns
+returns g c =
+    let some = rw c.in_ok-call.ensures.ok_part at c.parse.ensures in
+    record {
+      replied = turned (unchecked_fits _ c.in_default.ensures) (says some.0 c.make-2.ensures.step);
+      holds = unchecked_holds c.args.given.now c.in_default.ensures;
+      encoding = c.make-2.ensures.encoding;
     }

@@ -1,18 +1,14 @@
-use Rattle.std.proofs.Common.{ℕ, Bool, cond, sym, ap, arith}
-use Rattle.certificates.proofs.Standing.{before_none, before_more, before_most}
+use Rattle.std.proofs.Common.{◌≡◌, length, rules, tests, ◌∙◌, arith}
+use Rattle.std.specs.List.{filter, range_with_len}
+use Rattle.std.proofs.lemmas.Iterator.{YieldsList-from_range}
+use Rattle.std.proofs.lemmas.Iterator.Consumers.{YieldsList-from_filter, count_from_yields_List}
+use Rattle.layout.specs.Reading.{stands}
+use Rattle.certificates.proofs.Standing.{before_counts}
 use Rattle.certificates.proofs.reading.marks.Goals as goal
-use Rattle.certificates.proofs.reading.marks.Goals.{then-marked, else-marked}
 
-pub loop-product-init : goal.loop-product-init
-loop-product-init c = sym (before_none c.args.certificate.now)
-
-pub overflow_add-count : goal.overflow_add-count
-overflow_add-count c = omega (arith, c.loop-product.invariant, before_most c.args.certificate.now c.loop-product.product)
-
-pub loop-product-preserved : goal.loop-product-preserved
-loop-product-preserved c =
-    let more = before_more c.args.certificate.now c.loop-product.product c.marked.result c.marked.ensures in
-    elim c.if-marked.branch [
-      | then-marked w ↦ omega (arith, w.count-is, c.loop-product.invariant, more, ap {B = ℕ} (λ (b : Bool). cond b 1 0) w.if-marked.true)
-      | else-marked w ↦ omega (arith, w.count-is, c.loop-product.invariant, more, ap {B = ℕ} (λ (b : Bool). cond b 1 0) w.if-marked.false)
-    ]
+pub returns : goal.returns
+returns c =
+    let bytes = c.args.certificate.now in
+    let e : c.count.result ≡ length (filter (stands bytes) (range_with_len 0 c.args.products)) =
+    count_from_yields_List _ c.count.result c.count.ensures.ran (YieldsList-from_filter _ (stands bytes) (YieldsList-from_range 0 c.args.products c.args.products c.filter.ensures.source (omega arith)) c.filter.ensures.closure (λ x b q k. search (rules, tests))) in
+    e ∙ before_counts bytes c.args.products

@@ -1,21 +1,25 @@
-use Rattle.std.proofs.Common.{◌≡◌, ◌+◌, length, sym, ap, ◌∙◌, arith, rules}
-use Rattle.coloring.specs.Pairs.{upto, pair, row}
+use Rattle.std.proofs.Common.{length, rules, sym, ◌∙◌, arith}
 use Rattle.graphs.specs.Graph.{joined}
-use Rattle.coloring.specs.Numbering.{row_start, row_there, row_not, rows_more}
+use Rattle.std.specs.List.{range_with_len}
+use Rattle.std.proofs.lemmas.Iterator.{YieldsList-from_range, YieldsList-from_map}
+use Rattle.std.proofs.lemmas.Iterator.Consumers.{sum_by_from_yields_List, fits_by_from_yields_list}
+use Rattle.coloring.specs.Bounds.{pairs_few}
+use Rattle.coloring.specs.Pairs.{row}
+use Rattle.coloring.specs.Tally.{pairs_tally}
 use Rattle.coloring.proofs.pairs.count_pairs.Goals as goal
-use Rattle.coloring.proofs.pairs.count_pairs.Goals.{then-has, else-has}
 
-pub loop-j-init : goal.loop-j-init
-loop-j-init c = let e = row_start (joined c.args.graph.now) c.loop-i.i in (omega (arith, e), search rules)
+pub sum-requires-clause-fits : goal.sum-requires-clause-fits
+sum-requires-clause-fits c =
+    let f = joined c.args.graph.now in
+    let n = c.args.graph.now.vertices in
+    fits_by_from_yields_list (λ i. length (row f n i)) (range_with_len 0 n) c.map.result _
+    (YieldsList-from_map _ (λ i. length (row f n i)) (YieldsList-from_range 0 n n (search rules) (search rules)) c.map.ensures.closure (λ x r q k. search rules))
+    (omega (arith, pairs_tally f n, pairs_few f n c.args.graph.now.few))
 
-pub loop-j-preserved : goal.loop-j-preserved
-loop-j-preserved c =
-    elim c.if-has.branch [
-      | then-has w ↦ (omega (arith, w.all-is, row_there (joined c.args.graph.now) c.loop-i.i c.loop-j.j (omega arith) (sym c.has.ensures ∙ w.if-has.true)), omega (arith, w.all-is))
-      | else-has w ↦ (omega (arith, w.all-is, row_not (joined c.args.graph.now) c.loop-i.i c.loop-j.j (omega arith) (sym c.has.ensures ∙ w.if-has.false)), omega (arith, w.all-is))
-    ]
-
-pub loop-i-preserved : goal.loop-i-preserved
-loop-i-preserved c = let e = rows_more (joined c.args.graph.now) c.vertices-n.result c.loop-i.i in
-    let q : c.loop-j.j ≡ c.vertices-n.result = omega arith in
-    (c.loop-j.invariant.0 ∙ ap (λ m. length (upto (row (joined c.args.graph.now) c.vertices-n.result) c.loop-i.i) + length (upto (pair (joined c.args.graph.now) c.loop-i.i) m)) q ∙ sym e, search rules)
+pub returns : goal.returns
+returns c =
+    let f = joined c.args.graph.now in
+    let n = c.args.graph.now.vertices in
+    sum_by_from_yields_List (λ i. length (row f n i)) (range_with_len 0 n) c.map.result _ c.sum.ensures.ran
+    (YieldsList-from_map _ (λ i. length (row f n i)) (YieldsList-from_range 0 n n (search rules) (search rules)) c.map.ensures.closure (λ x r q k. search rules))
+    ∙ sym (pairs_tally f n)

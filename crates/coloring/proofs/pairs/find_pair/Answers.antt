@@ -1,10 +1,20 @@
-use Rattle.std.proofs.Common.{◌≡◌, length, sym, ap, ◌∙◌, arith}
+use Rattle.std.proofs.Common.{◌≡◌, ℕ, ◌<◌, min, max, length, Option, Some, None, MatchOption, option_map, sym, ap, ◌∙◌, arith}
+use Rattle.std.specs.List.{slice_get}
+use Rattle.graphs.specs.declared.edge.Edge.{Edge}
 use Rattle.graphs.specs.Graph.{joined}
-use Rattle.coloring.specs.Pairs.{upto, pair, row, pairs, at}
+use Rattle.coloring.specs.Pairs.{ends, two, upto, pair, row, pairs}
 use Rattle.coloring.specs.Numbering.{row_start, row_there, row_not, rows_more, pair_found}
-use Rattle.coloring.specs.Upto.{at_past}
+use Rattle.std.proofs.lemmas.Option.{slice_get_past}
 use Rattle.coloring.proofs.pairs.find_pair.Goals as goal
 use Rattle.coloring.proofs.pairs.find_pair.Goals.{then-has+else-seen-wanted, else-has}
+
+-- the edge between two vertices that are given in order has them as its ends
+between_ends : (o : Option Edge) (a b i j : ℕ) → a ≡ i → b ≡ j → i < j → j < 24 → MatchOption o (a < 24 → b < 24 → a ≡ b) (λ e. (e.lower ≡ min a b) × (e.higher ≡ max a b)) → option_map ends o ≡ Some (two i j)
+between_ends None a b i j p q l m h = absurd (omega (arith, p, q, h (omega arith) (omega arith)))
+between_ends (Some e) a b i j p q l m h =
+    let low : e.lower ≡ i = omega (arith, h.0) in
+    let high : e.higher ≡ j = omega (arith, h.1) in
+    λ t. Some (record { low = low t; high = high t })
 
 pub loop-j-init : goal.loop-j-init
 loop-j-init c = let e = row_start (joined c.args.graph.now) c.loop-i.i in (omega (arith, e), omega arith)
@@ -39,17 +49,12 @@ returns c =
     let n = c.vertices-n.result in
     let q : c.loop-i.i ≡ n = omega arith in
     let s = ap (λ m. length (upto (row f n) m)) q in
-    record {
-      value = sym (at_past (pairs f n) c.args.wanted (omega (arith, s))) ∙ ap (λ m. at (pairs f m) c.args.wanted) c.vertices-n.ensures.value;
-      small = tt;
-    }
+    sym (slice_get_past (pairs f n) c.args.wanted (omega (arith, s))) ∙ ap (λ m. slice_get (pairs f m) c.args.wanted) c.vertices-n.ensures.value
 
 pub returns-then-seen-wanted : goal.returns-then-seen-wanted
 returns-then-seen-wanted c =
     let f = joined c.args.graph.now in
     let n = c.vertices-n.result in
     let found = pair_found f n c.loop-i.i c.loop-j.j c.args.wanted (omega arith) (omega arith) (sym c.if-has.ensures) (omega arith) in
-    record {
-      value = sym found ∙ ap (λ m. at (pairs f m) c.args.wanted) c.vertices-n.ensures.value;
-      small = (omega arith, omega arith);
-    }
+    between_ends c.between.result c.from.result c.from-then-seen-wanted.result c.loop-i.i c.loop-j.j c.from.ensures c.from-then-seen-wanted.ensures (omega arith) (omega arith) c.between.ensures
+    ∙ sym found ∙ ap (λ m. slice_get (pairs f m) c.args.wanted) c.vertices-n.ensures.value

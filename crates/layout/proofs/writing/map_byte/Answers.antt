@@ -1,35 +1,25 @@
-use Rattle.std.proofs.Common.{◌≡◌, ℕ, ◌^◌, ◌<◌, Bool, cond, length, get_or, sym, refl, ap, ◌∙◌, subst, arith}
-use Rattle.layout.specs.Certificate.{bits}
-use Rattle.layout.proofs.Bytes.{bits_below, bits_more, shifted, byte_fits}
+use Rattle.std.proofs.Common.{ℕ, ◌+◌, ◌*◌, length, get_or, rules, ◌∙◌, arith}
+use Rattle.std.specs.List.{range_with_len}
+use Rattle.std.proofs.lemmas.Iterator.{YieldsList-from_range, YieldsList-from_map}
+use Rattle.std.proofs.lemmas.Iterator.Consumers.{sum_by_from_yields_List, fits_by_from_yields_list}
+use Rattle.layout.specs.Certificate.{present}
+use Rattle.layout.proofs.Bytes.{weighed, bits_summed, bits_fit}
 use Rattle.layout.proofs.writing.map_byte.Goals as goal
-use Rattle.layout.proofs.writing.map_byte.Goals.{then-stands, else-stands}
 
-pub loop-k-init : goal.loop-k-init
-unfolding bits
-loop-k-init g c = refl
-
-pub overflow_add-byte : goal.overflow_add-byte
-overflow_add-byte g c =
+pub sum-requires-clause-fits : goal.sum-requires-clause-fits
+sum-requires-clause-fits g c =
     let o = g.F.Field.ops in
     let xs = c.args.coefficients.now in
-    let small : c.loop-k.byte < 2 ^ c.loop-k.k =
-    subst (λ (n : ℕ). n < 2 ^ c.loop-k.k) (sym c.loop-k.invariant) (bits_below o (length xs) (λ k. get_or xs k o.zero) c.args.place c.loop-k.k) in
-    omega (arith, byte_fits c.loop-k.byte c.loop-k.k c.loop-k-test.true small)
-
-pub loop-k-preserved : goal.loop-k-preserved
-loop-k-preserved g c =
-    let o = g.F.Field.ops in
-    let xs = c.args.coefficients.now in
-    let more = bits_more o (length xs) (λ k. get_or xs k o.zero) c.args.place c.loop-k.k c.stands.result c.stands.ensures in
-    let weight = shifted c.loop-k.k c.loop-k-test.true in
-    elim c.if-stands.branch [
-      | then-stands w ↦ omega (arith, w.byte-is, c.loop-k.invariant, more, weight, ap (λ (b : Bool). cond b (2 ^ c.loop-k.k) 0) w.if-stands.true)
-      | else-stands w ↦ omega (arith, w.byte-is, c.loop-k.invariant, more, ap (λ (b : Bool). cond b (2 ^ c.loop-k.k) 0) w.if-stands.false)
-    ]
+    let w = λ (j : ℕ). weighed (present o (length xs) (λ k. get_or xs k o.zero) (8 * c.args.place + j)) j in
+    fits_by_from_yields_list w (range_with_len 0 8) c.map.result _
+    (YieldsList-from_map _ w (YieldsList-from_range 0 8 8 (search rules) (search rules)) c.map.ensures.closure (λ x r q k. search rules))
+    (bits_fit o (length xs) (λ k. get_or xs k o.zero) c.args.place)
 
 pub returns : goal.returns
 returns g c =
     let o = g.F.Field.ops in
     let xs = c.args.coefficients.now in
-    let end : c.loop-k.k ≡ 8 = omega arith in
-    c.loop-k.invariant ∙ ap (bits o (length xs) (λ k. get_or xs k o.zero) c.args.place) end
+    let w = λ (j : ℕ). weighed (present o (length xs) (λ k. get_or xs k o.zero) (8 * c.args.place + j)) j in
+    sum_by_from_yields_List w (range_with_len 0 8) c.map.result _ c.sum.ensures.ran
+    (YieldsList-from_map _ w (YieldsList-from_range 0 8 8 (search rules) (search rules)) c.map.ensures.closure (λ x r q k. search rules))
+    ∙ bits_summed o (length xs) (λ k. get_or xs k o.zero) c.args.place 8 (omega arith)

@@ -1,25 +1,20 @@
-use Rattle.std.proofs.Common.{◌≡◌, ℕ, ◌+◌, ◌/◌, ◌<◌, List, [], ◌∷◌, ◌++◌, length, get_or, sym, subst, append-nil, arith}
+use Rattle.std.proofs.Common.{ℕ, ◌<◌, List, [], ◌∷◌, ◌++◌, length, get_or, sym, refl, ap, ◌∙◌, arith}
+use Rattle.std.proofs.lemmas.List.{take_more_set}
 use Rattle.layout.specs.Certificate.{upto, bits}
-use Rattle.layout.specs.Written.{Wrote}
-use Rattle.layout.proofs.Bytes.{map_more}
+use Rattle.layout.proofs.Bytes.{upto_more}
 use Rattle.layout.proofs.writing.write_map.Goals as goal
 
 pub loop-place-init : goal.loop-place-init
 unfolding upto
-loop-place-init g c = λ done before six w. subst (λ (ys : List ℕ). Wrote ys before c.args.certificate.now) (sym (append-nil done)) w
+loop-place-init g c = refl
 
 pub loop-place-preserved : goal.loop-place-preserved
 loop-place-preserved g c =
     let o = g.F.Field.ops in
     let xs = c.args.coefficients.now in
-    let room : 6 + c.loop-place.place < length c.loop-place.certificate = omega (arith, c.requires.room, c.loop-place.auto.certificate, c.loop-place-test.true) in
-    λ done before six w.
-    map_more (λ b. bits o (length xs) (λ k. get_or xs k o.zero) b 8) c.loop-place.place done before c.loop-place.certificate _ six room c.map_byte.ensures (c.loop-place.invariant done before six w)
-
-pub returns : goal.returns
-returns g c =
-    let o = g.F.Field.ops in
-    let xs = c.args.coefficients.now in
-    let end : c.loop-place.place ≡ (length xs + 7) / 8 = omega arith in
-    λ done before six w.
-    subst (λ (n : ℕ). Wrote (done ++ upto (λ b. bits o (length xs) (λ k. get_or xs k o.zero) b 8 ∷ []) n) before c.loop-place.certificate) end (c.loop-place.invariant done before six w)
+    let byte : ℕ → List ℕ = λ b. bits o (length xs) (λ k. get_or xs k o.zero) b 8 ∷ [] in
+    let inside : c.loop-place.place < length c.loop-place.map = omega (arith, c.loop-place.auto.map, c.loop-place-test.true) in
+    take_more_set c.loop-place.map c.loop-place.place c.map_byte.result inside
+    ∙ ap (λ (ys : List ℕ). ys ++ c.map_byte.result ∷ []) c.loop-place.invariant
+    ∙ ap (λ (v : ℕ). upto byte c.loop-place.place ++ v ∷ []) c.map_byte.ensures
+    ∙ sym (upto_more byte c.loop-place.place)

@@ -1,5 +1,6 @@
-use Rattle.std.proofs.Common.{arith}
+use Rattle.std.proofs.Common.{arith, rules}
 use Rattle.plan.specs.Plans.{refused}
+use Rattle.plan.specs.Solving.{store}
 use Rattle.plan.proofs.Turns.{answer_long, answer_short}
 use Rattle.plan.proofs.answers.answer.Goals as goal
 
@@ -8,7 +9,8 @@ returns-then-text-room c = refused (omega arith)
 
 pub returns-then-plan-gt-LONGEST_PLAN : goal.returns-then-plan-gt-LONGEST_PLAN
 returns-then-plan-gt-LONGEST_PLAN c =
-    answer_long c.args.plan.now c.args.text.now _ c.write_reply.result c.write_reply.new.text c.if-plan-gt-LONGEST_PLAN.true (omega arith) c.write_reply.ensures
+    let long = answer_long c.args.plan.now c.args.text.now (store c.args.table.now c.args.certificate.now) c.new-answers.result c.push_reply.new.self c.if-plan-gt-LONGEST_PLAN.true (omega arith) c.new-answers.ensures.memory c.new-answers.ensures.empty c.push_reply.ensures in
+    search rules
 
 pub returns : goal.returns
 returns c =

@@ -1,29 +1,25 @@
-use Rattle.std.proofs.Common.{sym, subst, arith}
+use Rattle.std.proofs.Common.{ap, rules}
 use Rattle.fields.specs.Bit.{bit_ops}
 use Rattle.coloring.specs.Equations.{plain}
 use Rattle.nulla.specs.State.{state_of, fresh}
-use Rattle.plan.specs.Spelling.{Spells}
+use Rattle.plan.specs.Lines.{left}
 use Rattle.plan.specs.Solving.{store}
-use Rattle.plan.proofs.Splits.{place_within}
-use Rattle.plan.proofs.Turns.{Progress, turn_short, progress_none, progress_room, progress_more, progress_all}
+use Rattle.plan.specs.Spelling.{Spells}
+use Rattle.plan.proofs.Turns.{turn_short, answering_none, answering_room, answering_more, answering_all}
 use Rattle.plan.proofs.answers.answer_lines.Goals as goal
 
-pub loop-at-init : goal.loop-at-init
-loop-at-init c = (omega arith, subst (λ s. Progress Spells bit_ops (plain bit_ops.one) c.args.plan.now c.args.text.now fresh (store c.args.table.now c.args.certificate.now) 0 0 c.args.text.now s (store c.args.table.now c.args.certificate.now)) (sym c.new-solver.ensures.state) (progress_none Spells bit_ops (plain bit_ops.one) c.args.plan.now c.args.text.now fresh _))
+pub loop-line-init : goal.loop-line-init
+loop-line-init c =
+    answering_none Spells bit_ops (plain bit_ops.one) c.args.plan.now c.args.text.now fresh _ c.new-answers.result _ _ c.requires c.new-answers.ensures.memory c.new-answers.ensures.empty (search (rules, ap left)) c.new-solver.ensures.state
 
-pub write_reply-used-requires : goal.write_reply-used-requires
-write_reply-used-requires c = (
-  turn_short c.reply_to-reply.ensures.turn,
-  progress_room Spells bit_ops (plain bit_ops.one) c.args.plan.now c.args.text.now fresh _ c.loop-at.at c.loop-at.used c.loop-at.text _ _ c.loop-at.invariant.1 c.find-end.result c.loop-at-test.true c.find-end.ensures (omega arith),
-)
+pub push_reply-requires : goal.push_reply-requires
+push_reply-requires c = (turn_short c.reply_to.ensures.turn, answering_room Spells bit_ops (plain bit_ops.one) c.loop-line.invariant c.in-Some.ensures.steps)
 
-pub loop-at-preserved : goal.loop-at-preserved
-loop-at-preserved c =
-    let within = place_within c.args.plan.now c.loop-at.at c.find-end.result c.loop-at-test.true c.find-end.ensures in (
-      omega arith,
-      progress_more Spells bit_ops (plain bit_ops.one) c.args.plan.now c.args.text.now fresh _ c.loop-at.at c.loop-at.used c.loop-at.text _ _ c.loop-at.invariant.1 c.find-end.result c.loop-at-test.true c.find-end.ensures (omega arith) c.reply_to-reply.result (state_of c.reply_to-reply.new.solver) (store c.reply_to-reply.new.table c.reply_to-reply.new.certificate) c.write_reply-used.new.text c.write_reply-used.result c.reply_to-reply.ensures.turn c.write_reply-used.ensures,
-    )
+pub loop-line-preserved : goal.loop-line-preserved
+loop-line-preserved c =
+    answering_more Spells bit_ops (plain bit_ops.one) c.loop-line.invariant c.in-Some.ensures.steps c.reply_to.result (state_of c.reply_to.new.solver) (store c.reply_to.new.table c.reply_to.new.certificate) c.push_reply.new.self c.reply_to.ensures.turn c.push_reply.ensures
 
 pub returns : goal.returns
 returns c =
-    progress_all Spells bit_ops (plain bit_ops.one) c.args.plan.now c.args.text.now fresh _ c.loop-at.at c.loop-at.used c.loop-at.text _ _ c.loop-at.invariant.1 c.loop-at-test.false
+    let all = answering_all Spells bit_ops (plain bit_ops.one) c.loop-line.invariant c.new-answers.ensures.memory c.in-None.ensures.steps.0 in
+    search rules

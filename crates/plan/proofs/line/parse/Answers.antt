@@ -1,27 +1,22 @@
-use Rattle.std.proofs.Common.{sym, subst}
-use Rattle.plan.specs.Spelling.{Names, Parsed, adds, removes}
-use Rattle.plan.proofs.Spelled.{malformed_by, malformed_empty, malformed_letter, only}
+use Rattle.std.proofs.Common.{◌≡◌, subst, sym, rules, arith}
+use Rattle.std.specs.Option.{option_map}
+use Rattle.nulla.specs.declared.call.Call.TheVariants.{AddEdge, RemoveEdge}
+use Rattle.plan.specs.Spelling.{Parsed, opens, raises}
+use Rattle.plan.proofs.Spelled.{only, parsed_add, parsed_remove}
 use Rattle.plan.proofs.line.parse.Goals as goal
 
-pub returns-then-line-eq0 : goal.returns-then-line-eq0
-returns-then-line-eq0 c = malformed_empty c.args.line.now c.if-line-eq0.true
+pub returns-in-66 : goal.returns-in-66
+returns-in-66 c = opens (only c.args.line.now 66 (omega arith) (search rules))
 
-pub returns-then-line-eq1 : goal.returns-then-line-eq1
-returns-then-line-eq1 c =
-    subst (λ t. Parsed t c.alone.result) (sym (only c.args.line.now c.if-line-eq1.true)) c.alone.ensures
+pub returns-in-82 : goal.returns-in-82
+returns-in-82 c = raises (only c.args.line.now 82 (omega arith) (search rules))
 
-pub returns-in_default : goal.returns-in_default
-returns-in_default c =
-    malformed_by c.args.line.now c.if-line-eq1.false (c.in_default.ensures 67) (c.in_default.ensures 87)
+pub returns-in-67 : goal.returns-in-67
+returns-in-67 c =
+    let is : c.map-in-67.result ≡ option_map (λ e. AddEdge e.0 e.1) c.ends-in-67.result = search rules in
+    subst (Parsed c.args.line.now) (sym is) (parsed_add c.args.line.now c.ends-in-67.result (search rules) c.ends-in-67.ensures)
 
-pub returns-then-letter-eq-ADD : goal.returns-then-letter-eq-ADD
-returns-then-letter-eq-ADD c =
-    adds (subst (λ b. Names b c.args.line.now c.in-Some.i c.in-Some.j) c.if-letter-eq-ADD.true c.in-Some.ensures)
-
-pub returns-then-letter-eq-REMOVE : goal.returns-then-letter-eq-REMOVE
-returns-then-letter-eq-REMOVE c =
-    removes (subst (λ b. Names b c.args.line.now c.in-Some.i c.in-Some.j) c.if-letter-eq-REMOVE.true c.in-Some.ensures)
-
-pub returns-else-letter-eq-REMOVE : goal.returns-else-letter-eq-REMOVE
-returns-else-letter-eq-REMOVE c =
-    malformed_letter c.args.line.now _ c.in-Some.i c.in-Some.j c.in-Some.ensures c.if-letter-eq-ADD.false c.if-letter-eq-REMOVE.false
+pub returns-in-87 : goal.returns-in-87
+returns-in-87 c =
+    let is : c.map.result ≡ option_map (λ e. RemoveEdge e.0 e.1) c.ends.result = search rules in
+    subst (Parsed c.args.line.now) (sym is) (parsed_remove c.args.line.now c.ends.result (search rules) c.ends.ensures)

@@ -1,19 +1,14 @@
-use Rattle.std.proofs.Common.{length, ap, arith}
-use Rattle.plan.proofs.Splits.{lines_counted, lines_over, place_within, lines_few}
+use Rattle.std.proofs.Common.{◌≤◌, length, rules, inl}
+use Rattle.plan.specs.Lines.{lines_of}
+use Rattle.plan.proofs.Splits.{lines_few}
 use Rattle.plan.proofs.lines.count_lines.Goals as goal
 
-pub loop-at-preserved : goal.loop-at-preserved
-loop-at-preserved c =
-    let text = c.args.text.now in
-    let at = c.loop-at.at in
-    let place = c.find-at.result in
-    let count = lines_counted text at place c.loop-at-test.true c.find-at.ensures in
-    let within = place_within text at place c.loop-at-test.true c.find-at.ensures in
-    (omega arith, omega arith, omega (arith, c.loop-at.invariant.2))
+pub count-requires-clause-fits : goal.count-requires-clause-fits
+count-requires-clause-fits c =
+    let few : length (lines_of c.args.text.now) ≤ length c.args.text.now = lines_few c.args.text.now in
+    inl (search rules)
 
-pub returns : goal.returns
-returns c =
-    let text = c.args.text.now in
-    let over = ap length (lines_over text c.loop-at.at c.loop-at-test.false) in
-    let few = lines_few text in
-    record { value = omega (arith, c.loop-at.invariant.2); few = omega (arith, c.loop-at.invariant.2) }
+pub returns-clause-few : goal.returns-clause-few
+returns-clause-few c =
+    let few : length (lines_of c.args.text.now) ≤ length c.args.text.now = lines_few c.args.text.now in
+    search rules

@@ -1,31 +1,35 @@
-use Rattle.std.proofs.Common.{refl, ◌∙◌, arith}
+use Rattle.std.proofs.Common.{◌++◌, refl, ap, ◌∙◌, arith, rules}
 use Rattle.certificates.specs.Outcome.{memory}
 use Rattle.nulla.specs.State.{state_of}
-use Rattle.plan.proofs.Splits.{place_within}
-use Rattle.plan.proofs.Turns.{turn_short, progress_none, progress_room, progress_more, progress_all}
+use Rattle.plan.specs.Lines.{left}
+use Rattle.plan.proofs.Turns.{turn_short, answering_none, answering_room, answering_more, answering_all}
 use Rattle.calling.specs.Script.{Asks}
-use Rattle.scripts.proofs.Turning.{line_turn}
+use Rattle.scripts.proofs.Turning.{line_short, line_turn}
 use Rattle.scripts.proofs.answers.answer_lines.Goals as goal
 
-pub loop-at-init : goal.loop-at-init
-loop-at-init g c = (omega arith, refl, progress_none Asks g.E.Coeff.Field.ops _ c.args.script.now c.args.text.now _ _)
+pub loop-line-init : goal.loop-line-init
+loop-line-init g c = (
+  refl,
+  answering_none Asks g.E.Coeff.Field.ops _ c.args.script.now c.args.text.now _ _ c.new-answers.result _ _ c.requires.0 c.new-answers.ensures.memory c.new-answers.ensures.empty (search (rules, ap left)) refl,
+)
 
-pub write_reply-used-requires : goal.write_reply-used-requires
-write_reply-used-requires g c =
-    let turn = line_turn g.E.Encoding.lists c.args.script.now c.loop-at.at c.find-end.result (omega arith) c.loop-at.invariant.1 c.reply_to-reply.ensures.replied in (
-      turn_short turn,
-      progress_room Asks g.E.Coeff.Field.ops _ c.args.script.now c.args.text.now _ _ c.loop-at.at c.loop-at.used c.loop-at.text _ _ c.loop-at.invariant.2 c.find-end.result c.loop-at-test.true c.find-end.ensures (omega arith),
-    )
+pub push_reply-requires : goal.push_reply-requires
+push_reply-requires g c =
+    let p = c.loop-line.invariant.1 in
+    let short = line_short c.args.script.now p.progress.lines _ _ (p.progress.split ∙ ap (λ t. p.progress.lines ++ t) c.in-Some.ensures.steps) in
+    let turn = line_turn g.E.Encoding.lists (omega arith) c.loop-line.invariant.0 c.reply_to.ensures.replied in
+    (turn_short turn, answering_room Asks g.E.Coeff.Field.ops _ p c.in-Some.ensures.steps)
 
-pub loop-at-preserved : goal.loop-at-preserved
-loop-at-preserved g c =
-    let within = place_within c.args.script.now c.loop-at.at c.find-end.result c.loop-at-test.true c.find-end.ensures in
-    let turn = line_turn g.E.Encoding.lists c.args.script.now c.loop-at.at c.find-end.result (omega arith) c.loop-at.invariant.1 c.reply_to-reply.ensures.replied in (
-      omega arith,
-      c.reply_to-reply.ensures.encoding ∙ c.loop-at.invariant.1,
-      progress_more Asks g.E.Coeff.Field.ops _ c.args.script.now c.args.text.now _ _ c.loop-at.at c.loop-at.used c.loop-at.text _ _ c.loop-at.invariant.2 c.find-end.result c.loop-at-test.true c.find-end.ensures (omega arith) c.reply_to-reply.result (state_of c.reply_to-reply.new.solver) (memory c.reply_to-reply.new.table c.reply_to-reply.new.certificate) c.write_reply-used.new.text c.write_reply-used.result turn c.write_reply-used.ensures,
+pub loop-line-preserved : goal.loop-line-preserved
+loop-line-preserved g c =
+    let p = c.loop-line.invariant.1 in
+    let short = line_short c.args.script.now p.progress.lines _ _ (p.progress.split ∙ ap (λ t. p.progress.lines ++ t) c.in-Some.ensures.steps) in
+    let turn = line_turn g.E.Encoding.lists (omega arith) c.loop-line.invariant.0 c.reply_to.ensures.replied in (
+      c.reply_to.ensures.encoding ∙ c.loop-line.invariant.0,
+      answering_more Asks g.E.Coeff.Field.ops _ p c.in-Some.ensures.steps c.reply_to.result (state_of c.reply_to.new.solver) (memory c.reply_to.new.table c.reply_to.new.certificate) c.push_reply.new.self turn c.push_reply.ensures,
     )
 
 pub returns : goal.returns
 returns g c =
-    progress_all Asks g.E.Coeff.Field.ops _ c.args.script.now c.args.text.now _ _ c.loop-at.at c.loop-at.used c.loop-at.text _ _ c.loop-at.invariant.2 c.loop-at-test.false
+    let all = answering_all Asks g.E.Coeff.Field.ops _ c.loop-line.invariant.1 c.new-answers.ensures.memory c.in-None.ensures.steps.0 in
+    search rules

@@ -1,20 +1,20 @@
-use Rattle.std.proofs.Common.{◌≡◌, cond, eqb, get_or, sym, ap, ◌∙◌}
-use Rattle.std.proofs.lemmas.List.{get_or_default}
-use Rattle.std.proofs.lemmas.Bool.{false≢true, eq-eqb, ne_eqb, cond-true, cond-false}
-use Rattle.certificates.proofs.Summing.{target_code}
+use Rattle.std.proofs.Common.{◌≡◌, ◌+◌, rules, tests, sym, ap, ◌∙◌, arith}
+use Rattle.std.specs.List.{list_all, enumerate_from}
+use Rattle.std.proofs.lemmas.Iterator.{YieldsList-from_slice}
+use Rattle.std.proofs.lemmas.Iterator.Consumers.{YieldsList-from_enumerate}
+use Rattle.std.proofs.lemmas.Iterator.Search.{all_from_yields_List}
+use Rattle.polynomials.specs.Product.{target}
+use Rattle.certificates.proofs.Summing.{row_test, rows_decide}
 use Rattle.certificates.proofs.matrix.sum.is_one.Goals as goal
-use Rattle.certificates.proofs.matrix.sum.is_one.Goals.{then-row-eq0, else-row-eq0}
 
-pub returns-then-code-expected : goal.returns-then-code-expected
-returns-then-code-expected g c =
+pub returns : goal.returns
+returns g c =
     let o = g.F.Field.ops in
+    let laws = g.F.Field.laws in
     let xs = c.args.coefficients.now in
-    let row = c.loop-row.row in
-    let item : c.index-coefficients-row.result ≡ get_or xs row o.zero = c.index-coefficients-row.is ∙ get_or_default xs row c.index-coefficients-row.result o.zero c.loop-row-test.true in
-    let expected : c.if-row-eq0.expected ≡ cond (eqb row 0) 1 0 = elim c.if-row-eq0.branch [
-      | then-row-eq0 w ↦ w.expected-is ∙ sym (cond-true (eqb row 0) 1 0 (eq-eqb row 0 w.if-row-eq0.true))
-      | else-row-eq0 w ↦ w.expected-is ∙ sym (cond-false (eqb row 0) 1 0 (ne_eqb row 0 w.if-row-eq0.false))
-    ] in (
-      (λ e. absurd (false≢true e)),
-      λ one. absurd (c.if-code-expected.true (c.code.ensures ∙ ap o.code (item ∙ one row c.loop-row-test.true) ∙ target_code g.F.Field.laws row ∙ sym expected)),
+    let e : c.all.result ≡ list_all (row_test laws) (enumerate_from 0 xs) =
+    all_from_yields_List (row_test laws) _ _ c.all.result c.all.ensures.ran (YieldsList-from_enumerate (YieldsList-from_slice xs (search rules)) c.enumerate.ensures.count) (λ x b q k. search (rules, tests)) in
+    let rows = rows_decide laws 0 xs in (
+      (λ t r h. let same : 0 + r ≡ r = omega arith in rows.0 (sym e ∙ t) r h ∙ ap (target o) same),
+      λ one. e ∙ rows.1 (λ r h. let same : r ≡ 0 + r = omega arith in one r h ∙ ap (target o) same),
     )

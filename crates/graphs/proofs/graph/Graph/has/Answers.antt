@@ -1,8 +1,8 @@
-use Rattle.std.proofs.Common.{sym, ⊎_elim, arith}
+use Rattle.std.proofs.Common.{arith}
 use Rattle.graphs.proofs.Flags.{flag_outside}
 use Rattle.graphs.proofs.graph.Graph.has.Goals as goal
 
-pub returns-else-i-lt-LIMIT : goal.returns-else-i-lt-LIMIT
-returns-else-i-lt-LIMIT c =
-    let outside = ⊎_elim (λ h l. h.1) (λ h l. absurd (omega arith)) c.else-i-lt-LIMIT.either in
-    sym (flag_outside c.args.self.now.rows c.args.i c.args.j c.args.self.now.full c.args.self.now.wide outside)
+pub returns-else-j-lt-LIMIT : goal.returns-else-j-lt-LIMIT
+returns-else-j-lt-LIMIT c =
+    let graph = c.args.self.now in
+    let outside = flag_outside graph.rows c.args.i c.args.j graph.full graph.wide (λ h. omega (arith, c.if-j-lt-LIMIT.either)) in grind (arith, outside)

@@ -11,11 +11,11 @@ overflow_add-result g c =
     let few = triangles_few f n c.args.graph.now.few in
     omega (arith, few, law.small, law.count n f c.args.graph.now.few)
 
-pub returns-else-most-gt-ROOM : goal.returns-else-most-gt-ROOM
-returns-else-most-gt-ROOM g c =
+pub returns-then-has_room : goal.returns-then-has_room
+returns-then-has_room g c =
     let n = c.args.graph.now.vertices in
     let f = joined c.args.graph.now in
     let most = g.E.Encoding.high c.args.self.now.base in
     let all = added_length g.E.Coeff.Field.ops.one (g.E.Encoding.lists c.args.self.now.base n f) most n f in
-    let roomy = ap length (chosen_roomy most n f (omega arith)) in
+    let roomy = ap length (chosen_roomy most n f (c.has_room.ensures.0 c.if-has_room.true)) in
     omega (arith, all, roomy)

@@ -1,6 +1,9 @@
-use Rattle.std.proofs.Common.{length, sym, ap, ◌∙◌, arith}
+use Rattle.std.proofs.Common.{◌≡◌, [], length, rules, sym, ap, ◌∙◌, arith}
+use Rattle.std.specs.Option.{option_map_or}
 use Rattle.graphs.specs.Graph.{joined}
-use Rattle.coloring.specs.Added.{added_before, added_squares, added_past}
+use Rattle.coloring.specs.Added.{added_before, added_after}
+use Rattle.coloring.specs.Equations.{squares}
+use Rattle.coloring.specs.Reading.{each_or}
 use Rattle.coloring.proofs.encoding.triangles.TrianglesEncoding.terms.Goals as goal
 
 pub returns-then-equation-below : goal.returns-then-equation-below
@@ -10,16 +13,12 @@ returns-then-equation-below g c =
     let base = c.args.self.now.base in
     c.terms.ensures ∙ sym (ap length (added_before g.E.Coeff.Field.ops.one (g.E.Encoding.lists base n f) (g.E.Encoding.high base) n f c.args.equation (omega arith)))
 
-pub returns-in-Some : goal.returns-in-Some
-returns-in-Some g c =
+pub returns : goal.returns
+returns g c =
     let n = c.args.graph.now.vertices in
     let f = joined c.args.graph.now in
     let base = c.args.self.now.base in
-    sym (ap length (added_squares g.E.Coeff.Field.ops.one (g.E.Encoding.lists base n f) (g.E.Encoding.high base) n f c.args.equation c.count-below.result c.in-Some.field-0 c.count-below.ensures (omega arith) (sym c.in-Some.ensures.value)))
-
-pub returns-in-None : goal.returns-in-None
-returns-in-None g c =
-    let n = c.args.graph.now.vertices in
-    let f = joined c.args.graph.now in
-    let base = c.args.self.now.base in
-    sym (ap length (added_past g.E.Coeff.Field.ops.one (g.E.Encoding.lists base n f) (g.E.Encoding.high base) n f c.args.equation c.count-below.result c.count-below.ensures (omega arith) (sym c.in-None.ensures.value)))
+    let one = g.E.Coeff.Field.ops.one in
+    let told : c.map_or.result ≡ option_map_or (λ t. length (squares one t)) c.triangle.result 0 = search rules in
+    let e = added_after one (g.E.Encoding.lists base n f) (g.E.Encoding.high base) n f c.args.equation c.count-below.result c.triangle.result c.count-below.ensures (omega arith) c.triangle.ensures in
+    told ∙ each_or length (squares one) c.triangle.result [] ∙ ap length (sym e)

@@ -1,0 +1,12 @@
+use Rattle.std.proofs.Common.{◌+◌, ◌*◌}
+use Rattle.algebra.specs.Grid.{Kept}
+use Rattle.algebra.specs.Held.{held, Held}
+use Rattle.coloring.specs.Encoding.{over}
+use Rattle.certificates.specs.Matrix.{Begun}
+use Rattle.certificates.proofs.system.System.fill_equation.Given as goal
+
+abbrev pub invariant-loop-rank : goal.invariant-loop-rank
+invariant-loop-rank g l =
+    Held l.initial.grid l.grid
+    × Kept g.E.Coeff.Field.ops (l.initial.grid.rows * l.initial.grid.cols) (held l.initial.grid) (held l.grid)
+    × Begun g.E.Coeff.Field.ops l.self.graph.now.vertices l.self.sizes.degree (over (g.E.Encoding.lists l.self.encoding.now) l.self.graph.now) (l.equation * l.self.sizes.multipliers + l.rank) (held l.grid)

@@ -1,0 +1,3 @@
+pub mod Cycle
+pub mod Family
+pub mod Building
