@@ -41,7 +41,8 @@ impl<F: Field> fmt::Display for Assignment<F> {
     }
 }
 
-// The element of a code, or zero where the field has none.
+// The element of a code, or zero where the field has none. `scripts` reads a byte alike; a method would be one more that a field could give
+// another meaning.
 fn element<F: Field>(code: u8) -> F {
     F::from_code(code).unwrap_or(F::zero())
 }
