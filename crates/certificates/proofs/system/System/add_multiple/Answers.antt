@@ -10,18 +10,6 @@ use Rattle.certificates.specs.Matrix.{Summed}
 use Rattle.certificates.proofs.Summing.{product_is}
 use Rattle.certificates.proofs.system.System.add_multiple.Goals as goal
 
-pub multiplier-monomial-requires : goal.multiplier-monomial-requires
-multiplier-monomial-requires g c =
-    let gr = c.args.self.now.graph.now in
-    let n = gr.vertices in
-    let d = c.args.self.now.sizes.degree in
-    let k = c.args.number in
-    let eqs = over (g.E.Encoding.lists c.args.self.now.encoding.now) gr in
-    let z = c.args.self.now.measured.is in
-    let m : c.args.self.now.sizes.multipliers ≡ count n d = ap (λ (s : Sizes). s.multipliers) z in
-    let inside : k < products n d eqs = subst (λ (s : Sizes). k < s.products) z c.requires.listed in
-    subst (λ (a : ℕ). k % a < a) (sym m) (rank_below n d k eqs inside)
-
 pub add_product-requires : goal.add_product-requires
 add_product-requires g c =
     let gr = c.args.self.now.graph.now in

@@ -9,19 +9,10 @@ use Rattle.polynomials.proofs.Entries.{times_length, scaled_length}
 use Rattle.polynomials.proofs.Ranks.{plus_monomial}
 use Rattle.certificates.specs.declared.sizes.Sizes.{Sizes}
 use Rattle.certificates.specs.Matrix.{Summed}
-use Rattle.certificates.proofs.Columns.{summed_none}
-use Rattle.certificates.proofs.Grids.{held_self, term_turn}
+use Rattle.certificates.proofs.Grids.{term_turn}
 use Rattle.certificates.proofs.Terms.{sound_monomial, byte_sums, row_of}
 use Rattle.certificates.proofs.system.System.add_product.Goals as goal
 use Rattle.certificates.proofs.system.System.add_product.Goals.{in-Some, in_default}
-
-pub loop-index-init : goal.loop-index-init
-loop-index-init g c =
-    let gr = c.args.self.now.graph.now in (
-      held_self c.args.grid.now,
-      summed_none g.E.Coeff.Field.laws gr.vertices c.args.self.now.sizes.degree c.args.grid.now.cols c.args.column gr.few c.requires.column
-          (scaled g.E.Coeff.Field.ops c.args.factor (times c.args.monomial (get_or (over (g.E.Encoding.lists c.args.self.now.encoding.now) gr) c.args.equation []))) (held c.args.grid.now),
-    )
 
 pub plus-exponents-requires : goal.plus-exponents-requires
 plus-exponents-requires g c =

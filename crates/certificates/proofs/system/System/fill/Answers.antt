@@ -1,4 +1,4 @@
-use Rattle.std.proofs.Common.{◌≡◌, ℕ, ◌+◌, ◌*◌, ◌<◌, ◌≤◌, length, set, sym, ap, ◌∙◌, subst, zero-mul, arith}
+use Rattle.std.proofs.Common.{◌≡◌, ℕ, ◌+◌, ◌*◌, ◌<◌, ◌≤◌, length, set, sym, ap, ◌∙◌, subst, arith}
 use Rattle.algebra.specs.Grid.{Kept}
 use Rattle.algebra.specs.Held.{held, Inside}
 use Rattle.algebra.proofs.Places.{cell_in}
@@ -8,47 +8,9 @@ use Rattle.polynomials.specs.Product.{products}
 use Rattle.polynomials.proofs.Ranks.{count_positive}
 use Rattle.certificates.specs.declared.sizes.Sizes.{Sizes}
 use Rattle.certificates.specs.Matrix.{Begun, Filled}
-use Rattle.certificates.proofs.Filling.{begun_none, begun_filled}
-use Rattle.certificates.proofs.Grids.{held_self, held_then, roomy_then, kept_self, kept_then, kept_set}
+use Rattle.certificates.proofs.Filling.{begun_filled}
+use Rattle.certificates.proofs.Grids.{held_then, roomy_then, kept_then, kept_set}
 use Rattle.certificates.proofs.system.System.fill.Goals as goal
-
-pub loop-equation-init : goal.loop-equation-init
-loop-equation-init g c =
-    let o = g.E.Coeff.Field.ops in
-    let gr = c.args.self.now.graph.now in
-    let n = gr.vertices in
-    let d = c.args.self.now.sizes.degree in
-    let eqs = over (g.E.Encoding.lists c.args.self.now.encoding.now) gr in
-    let z = c.args.self.now.measured.is in
-    let area : c.args.grid.now.rows * c.args.grid.now.cols ≡ count n (d + 3) * (products n d eqs + 1) =
-    ap (λ (a : ℕ). a * c.args.grid.now.cols) (c.requires.rows.rows ∙ ap (λ (s : Sizes). s.rows) z) ∙ ap (λ (a : ℕ). count n (d + 3) * a) (c.requires.columns ∙ ap (λ (s : Sizes). s.products + 1) z) in (
-      held_self c.args.grid.now,
-      kept_self o _ (held c.args.grid.now),
-      subst (λ (k : ℕ). Begun o n d eqs k (held c.args.grid.now)) (sym (zero-mul c.args.self.now.sizes.multipliers))
-          (begun_none g.E.Coeff.Field.laws n d eqs (held c.args.grid.now) (λ k h. c.requires.blank k (subst (λ (a : ℕ). k < a) (sym area) h))),
-    )
-
-pub fill_equation-requires : goal.fill_equation-requires
-fill_equation-requires g c =
-    let gr = c.args.self.now.graph.now in
-    let z = c.args.self.now.measured.is in
-    record {
-      listed = subst (λ (a : ℕ). c.loop-equation.equation < a) (ap (λ (s : Sizes). s.equations) z) c.loop-equation-test.true;
-      rows = record { room = roomy_then c.args.grid.now c.loop-equation.grid c.loop-equation.invariant.0 c.loop-equation.invariant.1.long c.requires.rows.room; rows = c.loop-equation.invariant.0.rows ∙ c.requires.rows.rows };
-      columns = c.loop-equation.invariant.0.cols ∙ c.requires.columns;
-      begun = c.loop-equation.invariant.2;
-    }
-
-pub loop-equation-preserved : goal.loop-equation-preserved
-loop-equation-preserved g c =
-    let o = g.E.Coeff.Field.ops in
-    let same : c.loop-equation.grid.rows * c.loop-equation.grid.cols ≡ c.args.grid.now.rows * c.args.grid.now.cols =
-    ap (λ (a : ℕ). a * c.loop-equation.grid.cols) c.loop-equation.invariant.0.rows ∙ ap (λ (a : ℕ). c.args.grid.now.rows * a) c.loop-equation.invariant.0.cols in (
-      held_then c.args.grid.now c.loop-equation.grid c.fill_equation.new.grid c.loop-equation.invariant.0 c.fill_equation.ensures.held,
-      kept_then o (c.args.grid.now.rows * c.args.grid.now.cols) (held c.args.grid.now) (held c.loop-equation.grid) (held c.fill_equation.new.grid) c.loop-equation.invariant.1
-          (subst (λ (a : ℕ). Kept o a (held c.loop-equation.grid) (held c.fill_equation.new.grid)) same c.fill_equation.ensures.kept),
-      c.fill_equation.ensures.begun,
-    )
 
 pub returns : goal.returns
 returns g c =

@@ -1,4 +1,4 @@
-use Rattle.std.proofs.Common.{◌≡◌, ℕ, ◌+◌, ◌*◌, ◌<◌, length, sym, ap, ◌∙◌, subst, add-zero, add-mul, one-mul, arith}
+use Rattle.std.proofs.Common.{◌≡◌, ℕ, ◌+◌, ◌*◌, ◌<◌, length, sym, ap, ◌∙◌, subst, add-mul, one-mul, arith}
 use Rattle.algebra.specs.Grid.{Kept}
 use Rattle.algebra.specs.Held.{held}
 use Rattle.coloring.specs.Encoding.{over}
@@ -8,26 +8,8 @@ use Rattle.polynomials.proofs.Ranks.{monomial_at_lem}
 use Rattle.certificates.specs.declared.sizes.Sizes.{Sizes}
 use Rattle.certificates.specs.Matrix.{Begun}
 use Rattle.certificates.proofs.Filling.{column_turn, column_below}
-use Rattle.certificates.proofs.Grids.{held_self, held_then, roomy_then, kept_self, kept_then}
+use Rattle.certificates.proofs.Grids.{held_then, roomy_then, kept_then}
 use Rattle.certificates.proofs.system.System.fill_equation.Goals as goal
-
-pub loop-rank-init : goal.loop-rank-init
-loop-rank-init g c =
-    let o = g.E.Coeff.Field.ops in
-    let gr = c.args.self.now.graph.now in (
-      held_self c.args.grid.now,
-      kept_self o (c.args.grid.now.rows * c.args.grid.now.cols) (held c.args.grid.now),
-      subst (λ (k : ℕ). Begun o gr.vertices c.args.self.now.sizes.degree (over (g.E.Encoding.lists c.args.self.now.encoding.now) gr) k (held c.args.grid.now)) (sym (add-zero (c.args.equation * c.args.self.now.sizes.multipliers))) c.requires.begun,
-    )
-
-pub overflow_add-equation : goal.overflow_add-equation
-overflow_add-equation g c =
-    let n = c.args.self.now.graph.now.vertices in
-    let d = c.args.self.now.sizes.degree in
-    let eqs = over (g.E.Encoding.lists c.args.self.now.encoding.now) c.args.self.now.graph.now in
-    let below : c.loop-rank.rank < c.args.self.now.sizes.multipliers = c.loop-rank-test.true in
-    let column = column_below c.args.equation c.loop-rank.rank c.args.self.now.sizes.multipliers (length eqs) c.requires.listed below in
-    omega (arith, column, ap (λ (m : ℕ). length eqs * m) (ap (λ (s : Sizes). s.multipliers) c.args.self.now.measured.is), c.args.self.now.measured.few_products)
 
 pub add_product-requires : goal.add_product-requires
 add_product-requires g c =

@@ -2,18 +2,10 @@ use Rattle.std.proofs.Common.{◌≡◌, [], get_or, rules, sym, ap, ◌∙◌, 
 use Rattle.std.specs.Option.{option_map_or}
 use Rattle.graphs.specs.Graph.{joined}
 use Rattle.coloring.specs.Absent.{absent}
-use Rattle.coloring.specs.Added.{added_before, added_after}
+use Rattle.coloring.specs.Added.{added_after}
 use Rattle.coloring.specs.Equations.{squares}
 use Rattle.coloring.specs.Reading.{each_or}
 use Rattle.coloring.proofs.encoding.triangles.TrianglesEncoding.term.Goals as goal
-
-pub returns-then-equation-below : goal.returns-then-equation-below
-returns-then-equation-below g c =
-    let n = c.args.graph.now.vertices in
-    let f = joined c.args.graph.now in
-    let base = c.args.self.now.base in
-    let e = added_before g.E.Coeff.Field.ops.one (g.E.Encoding.lists base n f) (g.E.Encoding.high base) n f c.args.equation (omega arith) in
-    c.term.ensures ∙ ap (λ z. get_or z c.args.index (absent g.E.Coeff.Field.ops)) (sym e)
 
 pub returns : goal.returns
 returns g c =

@@ -1,17 +1,10 @@
 use Rattle.std.proofs.Common.{◌≡◌, [], length, rules, sym, ap, ◌∙◌, arith}
 use Rattle.std.specs.Option.{option_map_or}
 use Rattle.graphs.specs.Graph.{joined}
-use Rattle.coloring.specs.Added.{added_before, added_after}
+use Rattle.coloring.specs.Added.{added_after}
 use Rattle.coloring.specs.Equations.{squares}
 use Rattle.coloring.specs.Reading.{each_or}
 use Rattle.coloring.proofs.encoding.triangles.TrianglesEncoding.terms.Goals as goal
-
-pub returns-then-equation-below : goal.returns-then-equation-below
-returns-then-equation-below g c =
-    let n = c.args.graph.now.vertices in
-    let f = joined c.args.graph.now in
-    let base = c.args.self.now.base in
-    c.terms.ensures ∙ sym (ap length (added_before g.E.Coeff.Field.ops.one (g.E.Encoding.lists base n f) (g.E.Encoding.high base) n f c.args.equation (omega arith)))
 
 pub returns : goal.returns
 returns g c =
