@@ -19,7 +19,7 @@ use Rattle.nulla.specs.Steps.{Lists, grounds, Step, refuses, answers, works}
 use Rattle.nulla.proofs.States.{differ, not_over, same_state, step_as}
 
 -- a verdict has the degree that was worked
-reached_worked : {F : Type 0} {o : Ops F} {n d : ℕ} {eqs : List (List (Term F))} {m k : Memory F} {v : Verdict} → Worked o n d eqs m v k → reached v ≡ d
+pub reached_worked : {F : Type 0} {o : Ops F} {n d : ℕ} {eqs : List (List (Term F))} {m k : Memory F} {v : Verdict} → Worked o n d eqs m v k → reached v ≡ d
 reached_worked (certified x c) = refl
 reached_worked (uncertified h) = refl
 
@@ -56,11 +56,11 @@ module _ {E F : Type 0} (o : Ops F) (lists : E → Lists F) (s : Solver E) (m : 
         subst (λ (j : Memory F). Step o (lists s.encoding) raise_degree here m (Err r) here j) (sym q) (refuses (first_next r (at_reached (λ e. First (next e) r) x)))
 
     pub raise_worked : (v : Verdict) (k : Memory F) → Clear (next d) → Worked o s.graph.vertices (d + 1) eqs m v k
-        → Step o (lists s.encoding) raise_degree here m (told v) (state s.graph.vertices (joined s.graph) (reached v) (infeasible v)) k
+        → Step o (lists s.encoding) raise_degree here m (told v) (state s.graph.vertices (joined s.graph) (d + 1) (infeasible v)) k
     raise_worked v k x w =
         let y = at_reached (λ e. Clear (next e)) x in
         let u = at_reached (λ e. Worked o s.graph.vertices (e + 1) eqs m v k) w in
-        step_as (answers (still_open, ((λ h. y.0 (omega arith)), y.1)) (works u)) refl (same_state refl (λ i j. refl) (sym (reached_worked u)) refl)
+        step_as (answers (still_open, ((λ h. y.0 (omega arith)), y.1)) (works u)) refl (same_state refl (λ i j. refl) (ap (λ e. e + 1) (ap reached is)) refl)
 
-    pub low_worked : (v : Verdict) (k : Memory F) → Clear (next d) → Worked o s.graph.vertices (d + 1) eqs m v k → reached v ≤ 48
-    low_worked v k x w = let r = reached_worked w in let h = not_over (d + 1) 48 x.0 in omega (arith, r, h)
+    pub next_low : Clear (next d) → d + 1 ≤ 48
+    next_low x = not_over (d + 1) 48 x.0

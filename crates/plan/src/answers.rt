@@ -24,6 +24,7 @@ pub const LONGEST_PLAN: usize = 4096;
 pub const LONGEST_LINE: usize = 9;
 
 /// Has a solver make the call that a line of a plan says; a line that says none is refused.
+#[tactic(auto, using(crate::specs::Texts::says, crate::specs::Texts::unsaid))]
 pub fn reply_to<E: Encoding>(
     solver: &mut Solver<E>,
     line: &[u8],

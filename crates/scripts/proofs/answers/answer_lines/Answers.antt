@@ -26,7 +26,7 @@ loop-line-preserved g c =
     let short = line_short c.args.script.now p.progress.lines _ _ (p.progress.split ∙ ap (λ t. p.progress.lines ++ t) c.in-Some.ensures.steps) in
     let turn = line_turn g.E.Encoding.lists (omega arith) c.loop-line.invariant.0 c.reply_to.ensures.replied in (
       c.reply_to.ensures.encoding ∙ c.loop-line.invariant.0,
-      answering_more Asks g.E.Coeff.Field.ops _ p c.in-Some.ensures.steps c.reply_to.result (state_of c.reply_to.new.solver) (memory c.reply_to.new.table c.reply_to.new.certificate) c.push_reply.new.self turn c.push_reply.ensures,
+      answering_more Asks g.E.Coeff.Field.ops _ p c.in-Some.ensures.steps c.reply_to.result (state_of c.reply_to.new.solver) (memory c.reply_to.new.table c.reply_to.new.certificate) _ turn c.push_reply.ensures,
     )
 
 pub returns : goal.returns

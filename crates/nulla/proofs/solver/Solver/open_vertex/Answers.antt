@@ -1,4 +1,4 @@
-use Rattle.std.proofs.Common.{refl, sym, ◌∙◌}
+use Rattle.std.proofs.Common.{refl, sym, ◌∙◌, rules}
 use Rattle.std.proofs.lemmas.Result.{err_from_is_err_and}
 use Rattle.nulla.proofs.Edges.{opening_refused, opening}
 use Rattle.nulla.proofs.solver.Solver.open_vertex.Goals as goal
@@ -15,7 +15,6 @@ returns-in_err-number g c =
 pub returns : goal.returns
 returns g c =
     let s = c.args.self.now in
-    λ m. record {
-      step = opening g.E.Coeff.Field.ops g.E.Encoding.lists s _ _ _ _ (sym c.ok_or.ensures.value ∙ c.in_ok-number.was) c.open.ensures c.kept-self.ensures m;
-      encoding = refl;
-    }
+    λ m.
+    let opened = opening g.E.Coeff.Field.ops g.E.Encoding.lists s _ _ _ _ (sym c.ok_or.ensures.value ∙ c.in_ok-number.was) c.open.ensures c.kept-self.ensures m in
+    record { step = search (rules, opened); encoding = refl }
