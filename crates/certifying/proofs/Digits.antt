@@ -1,7 +1,6 @@
 -- One byte more at the end is two digits more at the end. Assumes nothing.
-use Rattle.std.proofs.Common.{◌≡◌, ℕ, ◌+◌, ◌/◌, ◌%◌, ◌<◌, true, false, List, [], ◌∷◌, ◌++◌, length, slice_index, take, ◌-◌, ◌^◌, Option, Some, option_map, refl, sym, ap, ◌∙◌, subst}
-use Rattle.std.specs.Fmt.{AppendsText, padded_integral, format_spec, digits, digits_output, styled_digits_output}
-use Rattle.std.proofs.lemmas.Fmt.{hex_byte}
+use Rattle.std.proofs.Common.{◌≡◌, ℕ, ◌+◌, ◌/◌, ◌%◌, ◌<◌, List, [], ◌∷◌, ◌++◌, length, get_or, take, refl, ap, ◌∙◌, append_assoc, arith}
+use Rattle.std.proofs.lemmas.Bool.Decides.{nat_tests}
 use Rattle.std.proofs.lemmas.List.{take_more}
 use Rattle.certifying.specs.Hexadecimal.{digit_of, hex_of}
 
@@ -9,21 +8,26 @@ one_more : (bytes : List ℕ) (byte : ℕ) → hex_of (bytes ++ (byte ∷ [])) �
 one_more [] byte = refl
 one_more (b ∷ bytes) byte = ap (λ text. digit_of (b / 16) ∷ digit_of (b % 16) ∷ text) (one_more bytes byte)
 
-next : (bytes : List ℕ) (i : ℕ) → i < length bytes → hex_of (take (i + 1) bytes) ≡ hex_of (take i bytes) ++ hex_of (slice_index bytes i ∷ [])
-next bytes i h = ap hex_of (take_more bytes i 0 h) ∙ one_more (take i bytes) (slice_index bytes i)
+next : (bytes : List ℕ) (i : ℕ) → i < length bytes → hex_of (take (i + 1) bytes) ≡ hex_of (take i bytes) ++ (digit_of (get_or bytes i 0 / 16) ∷ digit_of (get_or bytes i 0 % 16) ∷ [])
+next bytes i h = ap hex_of (take_more bytes i 0 h) ∙ one_more (take i bytes) (get_or bytes i 0)
 
--- what `{:02X}` writes of a byte
-pub two_digits : (byte : ℕ) (d : _) (s : _) → byte < 256 → s ≡ format_spec 32 0 4 2 (2 ^ 64 - 1) → digits_output d ≡ Some (digits 16 true byte)
-    → styled_digits_output d s ≡ Some (hex_of (byte ∷ []))
-two_digits byte d s small laid shown =
-    ap (styled_digits_output d) laid ∙ ap (option_map (padded_integral (format_spec 32 0 4 2 (2 ^ 64 - 1)) false [])) shown ∙ ap Some (hex_byte true byte small)
+-- a digit is one byte of text
+digit_ascii : (n c : ℕ) → n < 16 → c ≡ digit_of n → c < 128
+digit_ascii n c h e = rw e (grind (arith, nat_tests))
 
--- the text after one byte more
-pub grown : (bytes : List ℕ) (i : ℕ) {before after : List ℕ} {written : Option (List ℕ)} → i < length bytes
+-- the text after one digit, as text is pushed
+pub pushed : (before : List ℕ) {after encoded : List ℕ} {c : ℕ} (n : ℕ) → n < 16 → c ≡ digit_of n → (c < 128 → encoded ≡ c ∷ []) → after ≡ before ++ encoded → after ≡ before ++ (c ∷ [])
+pushed before {c = c} n h e one grows = grows ∙ ap (λ t. before ++ t) (one (digit_ascii n c h e))
+
+-- the text after both digits of a byte, each written as one byte
+pub grown : (bytes : List ℕ) (i h l : ℕ) (before between after : List ℕ) → i < length bytes
     → before ≡ hex_of (take i bytes)
-    → written ≡ Some (hex_of (slice_index bytes i ∷ []))
-    → AppendsText before after written
+    → h ≡ digit_of (get_or bytes i 0 / 16)
+    → l ≡ digit_of (get_or bytes i 0 % 16)
+    → between ≡ before ++ (h ∷ [])
+    → after ≡ between ++ (l ∷ [])
     → after ≡ hex_of (take (i + 1) bytes)
-grown bytes i {before = before} {after = after} within b two appends =
-    let more : after ≡ before ++ hex_of (slice_index bytes i ∷ []) = subst (AppendsText before after) two appends in
-    more ∙ ap (λ text. text ++ hex_of (slice_index bytes i ∷ [])) b ∙ sym (next bytes i within)
+grown bytes i h l before between after within b hi lo first second =
+    let all : after ≡ before ++ (h ∷ l ∷ []) = second ∙ ap (λ t. t ++ (l ∷ [])) first ∙ append_assoc before (h ∷ []) (l ∷ []) in
+    let n = next bytes i within in
+    cc

@@ -6,4 +6,4 @@ pub mod Going
 pub mod Turns
 mod Counting
 mod Once
-pub mod Numerals
+pub mod Tally

@@ -1,6 +1,6 @@
 -- A text's first line, and what the text has after it. Assumes nothing.
-use Rattle.std.proofs.Common.{◌≡◌, ℕ, suc, ◌+◌, ◌*◌, ◌<◌, ◌≤◌, max, cond, eqb, List, [], ◌∷◌, ◌++◌, length, get_or, take, drop, sym, refl, ap, ◌∙◌, ⊎_elim, arith}
-use Rattle.std.proofs.lemmas.List.{take-append-drop, drop-drop, drop_more, drop_all, take_all, get_or-take, length-take}
+use Rattle.std.proofs.Common.{◌≡◌, ℕ, suc, ◌+◌, ◌-◌, ◌*◌, ◌<◌, ◌≤◌, max, cond, eqb, List, [], ◌∷◌, ◌++◌, length, get_or, take, drop, sym, refl, ap, ◌∙◌, ⊎_elim, arith}
+use Rattle.std.proofs.lemmas.List.{take-append-drop, drop-drop, drop_more, drop_all, take_all, get_or-take, get_or-drop, length-take, length-drop}
 use Rattle.std.proofs.lemmas.Bool.{ne_eqb, le-ltb, lt-ltb, cond-false, cond_both, cases_lt}
 use Rattle.plan.specs.Lines.{begun, lines_of, Found}
 use Rattle.plan.specs.Plans.{room_of}
@@ -29,32 +29,49 @@ last_line : (line : List ℕ) → 0 < length line → Unbroken line → lines_of
 last_line [] some whole = absurd (omega arith)
 last_line (byte ∷ line) some whole = lines_last byte line whole
 
-module _ (text : List ℕ) (place : ℕ) (some : 0 < length text) (f : Found text 10 0 place) where
-  unbroken : Unbroken (take place text)
+module _ (text : List ℕ) (from place : ℕ) (inside : from < length text) (f : Found text 10 from place) where
+  line : List ℕ
+  line = take (place - from) (drop from text)
+
+  unbroken : Unbroken line
+  unfolding line
   unbroken k h e =
-      let room : length (take place text) ≤ place = simp length-take (omega arith) in
-      let less : k < place = omega arith in
-      f.absent k (omega arith) less (sym (get_or-take place text k 0 less) ∙ e)
+      let room : length (take (place - from) (drop from text)) ≤ place - from = simp length-take (omega arith) in
+      let less : k < place - from = omega arith in
+      f.absent (from + k) (omega arith) (omega arith) (sym (get_or-take (place - from) (drop from text) k 0 less ∙ get_or-drop from text k 0) ∙ e)
 
-  first_ended : place < length text → lines_of text ≡ take place text ∷ lines_of (drop (place + 1) text)
-  first_ended h =
-      ap lines_of (sym (take-append-drop place text) ∙ ap (λ t. take place text ++ t) (drop_more text place 0 h ∙ ap (λ b. b ∷ drop (place + 1) text) (f.there h))) ∙ lines_ended (take place text) (drop (place + 1) text) unbroken
+  parted : drop from text ≡ line ++ drop place text
+  unfolding line
+  parted =
+      let back : from + (place - from) ≡ place = omega (arith, f.after) in
+      sym (take-append-drop (place - from) (drop from text)) ∙ ap (λ t. take (place - from) (drop from text) ++ t) (drop-drop (place - from) from text ∙ ap (λ k. drop k text) back)
 
-  first_last : length text ≤ place → lines_of text ≡ take place text ∷ lines_of (drop (place + 1) text)
-  first_last h =
-      let all : take place text ≡ text = take_all place text h in
+  split_ended : place < length text → lines_of (drop from text) ≡ line ∷ lines_of (drop (place + 1) text)
+  split_ended h =
+      ap lines_of (parted ∙ ap (λ t. line ++ t) (drop_more text place 0 h ∙ ap (λ b. b ∷ drop (place + 1) text) (f.there h))) ∙ lines_ended line (drop (place + 1) text) unbroken
+
+  split_last : length text ≤ place → lines_of (drop from text) ≡ line ∷ lines_of (drop (place + 1) text)
+  unfolding line
+  split_last h =
+      let all : take (place - from) (drop from text) ≡ drop from text = take_all (place - from) (drop from text) (simp length-drop (omega arith)) in
       let over : drop (place + 1) text ≡ [] = drop_all (place + 1) text (omega arith) in
-      let more : 0 < length (take place text) = rw all some in
-      ap lines_of (sym all) ∙ last_line (take place text) more unbroken ∙ ap (λ t. take place text ∷ t) (sym (ap lines_of over))
+      let some : 0 < length (take (place - from) (drop from text)) = rw all (simp length-drop (omega arith)) in
+      ap lines_of (sym all) ∙ last_line line some unbroken ∙ ap (λ t. line ∷ t) (sym (ap lines_of over))
 
-  -- The first line ends at `place`, and the next one begins after it.
-  lines_first : lines_of text ≡ take place text ∷ lines_of (drop (place + 1) text)
-  lines_first = ⊎_elim first_ended first_last (cases_lt place (length text))
+  -- The line that begins at `from` ends at `place`, and the next one begins after it.
+  pub lines_split : lines_of (drop from text) ≡ take (place - from) (drop from text) ∷ lines_of (drop (place + 1) text)
+  unfolding line
+  lines_split = ⊎_elim split_ended split_last (cases_lt place (length text))
 
--- The same of a line, what stands from its end on, and what stands after its end.
-pub lines_next : (text line end next : List ℕ) (place : ℕ) → 0 < length text → Found text 10 0 place → line ≡ take place text → end ≡ drop place text → next ≡ drop 1 end → lines_of text ≡ line ∷ lines_of next
-lines_next text line end next place some f is ended after =
-    lines_first text place some f ∙ ap (λ t. t ∷ lines_of (drop (place + 1) text)) (sym is) ∙ ap (λ t. line ∷ lines_of t) (sym (after ∙ ap (drop 1) ended ∙ drop-drop 1 place text))
+  pub lines_counted : length (lines_of (drop from text)) ≡ length (lines_of (drop (place + 1) text)) + 1
+  lines_counted = ap length lines_split ∙ omega arith
+
+  pub place_within : place ≤ length text
+  place_within = omega (arith, f.within)
+
+-- Past its end a text has no line.
+pub lines_over : (text : List ℕ) (at : ℕ) → length text ≤ at → lines_of (drop at text) ≡ []
+lines_over text at h = ap lines_of (drop_all at text h)
 
 pub room_long : (plan : List ℕ) → 4096 < length plan → room_of plan ≡ 9
 room_long plan h = ap (λ b. 9 * cond b 1 (max 1 (length (lines_of plan)))) (lt-ltb 4096 (length plan) h)

@@ -1,5 +1,5 @@
 -- The lines of a text: byte 10 ends a line, and the last line may lack it. An empty text has no line. Assumes nothing.
-use Rattle.std.specs.Prelude.{◌≡◌, ℕ, ◌<◌, ◌≤◌, max, cond, List, [], ◌∷◌, length, ◌==◌, ◌≢◌, slice_index}
+use Rattle.std.specs.Prelude.{◌≡◌, ℕ, ◌<◌, ◌≤◌, max, cond, List, [], ◌∷◌, length, drop, ◌==◌, ◌≢◌, slice_index}
 use Rattle.plan.specs.declared.lines.TextLines.{TextLines}
 
 -- One byte more, before the first line.
@@ -11,9 +11,15 @@ abbrev pub lines_of : List ℕ → List (List ℕ)
 lines_of [] = []
 lines_of (byte ∷ text) = cond (byte == 10) ([] ∷ lines_of text) (begun byte (lines_of text))
 
+-- One for a last line that lacks its end.
+abbrev pub unended : List ℕ → ℕ
+unended [] = 0
+unended (byte ∷ []) = cond (byte == 10) 0 1
+unended (byte ∷ next ∷ text) = unended (next ∷ text)
+
 -- The lines that an iterator has left.
 abbrev pub left : TextLines → List (List ℕ)
-left lines = lines_of lines.rest.now
+left lines = lines_of (drop lines.at lines.text.now)
 
 -- The first place of a byte in a text, from a place on; the text's end where it does not stand there.
 pub record Found (text : List ℕ) (byte from place : ℕ) : Type 0 where

@@ -1,24 +1,34 @@
 // What a line of a plan says. A line is read by its letter and its spaces, so that each part is a slice of the plan itself.
-ghost use Rattle.plan.specs.Spelling.{Valued, Named, Parsed, SpelledOnce};
+ghost use Rattle.std.specs.Prelude.{◌≡◌, ◌-◌, MatchOption};
+ghost use Rattle.plan.specs.Spelling.{Digit, Valued, Named, Parsed, SpelledOnce};
 
 use crate::lines::find;
 use nulla::Call;
 
-const MOST_DIGITS: usize = 3;
-
 const SPACE: u8 = b' ';
+
+// What a decimal digit counts.
+fn digit(byte: u8) -> Option<usize>
+    ensures { MatchOption result (Digit byte → ⊥) (λ n. Digit byte × (n ≡ byte - 48)) }
+{
+    byte.is_ascii_digit().then(|| usize::from(byte - b'0'))
+}
 
 /// The number that one to three decimal digits write.
 pub fn number(digits: &[u8]) -> Option<usize>
     ensures { Valued digits.now result }
 {
-    if digits.len() > MOST_DIGITS || !digits.iter().all(u8::is_ascii_digit) {
-        return None;
+    match *digits {
+        [a] => digit(a),
+        [a, b] => Some(10 * digit(a)? + digit(b)?),
+        [a, b, c] => Some(100 * digit(a)? + 10 * digit(b)? + digit(c)?),
+        _ => None,
     }
-    str::from_utf8(digits).ok()?.parse().ok()
 }
 
 /// The two numbers after a line's letter.
+// Inline, since it has two callers and is most of what a line takes.
+#[inline(always)]
 pub fn ends(line: &[u8]) -> Option<(usize, usize)>
     ensures { Named line.now result }
 {

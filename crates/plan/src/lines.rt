@@ -1,7 +1,7 @@
 // Where a byte stands in a text: lines and words are cut there. The lines of a text, and how many they are.
 ghost use Rattle.std.specs.Prelude.{◌≡◌, ◌≤◌, length};
 ghost use Rattle.std.specs.Iterator.{YieldsFirstBy, item_count};
-ghost use Rattle.plan.specs.Lines.{Found, lines_of, left};
+ghost use Rattle.plan.specs.Lines.{Found, lines_of, left, unended};
 
 /// The byte that ends a line.
 pub const LINE_END: u8 = b'\n';
@@ -11,21 +11,24 @@ pub const LINE_END: u8 = b'\n';
 pub fn find(text: &[u8], byte: u8, from: usize) -> usize
     ensures { Found text.now byte from result }
 {
-    let steps = text.iter().skip(from).position(|b| *b == byte);
-    steps.map_or(text.len().max(from), |steps| from + steps)
+    // By place: on short lines a `skip` takes longer than the search.
+    (from..text.len())
+        .find(|&place| text[place] == byte)
+        .unwrap_or(text.len().max(from))
 }
 
 /// The lines of a text one after the other, without their ends.
 #[derive(Clone, Debug, Drop)]
 pub struct TextLines<'a> {
-    rest: &'a [u8],
+    text: &'a [u8],
+    at: usize,
 }
 
 /// The lines of a text, without their ends.
 pub fn lines(text: &[u8]) -> TextLines<'_>
     ensures { left result ≡ lines_of text.now }
 {
-    TextLines { rest: text }
+    TextLines { text, at: 0 }
 }
 
 impl<'a> Iterator for TextLines<'a> {
@@ -36,14 +39,25 @@ impl<'a> Iterator for TextLines<'a> {
     ghost remaining = { item_count left };
 
     fn next(&mut self) -> Option<&'a [u8]> {
-        let rest = self.rest;
-        if rest.is_empty() {
+        let text = self.text;
+        let start = self.at;
+        if start >= text.len() {
             return None;
         }
-        let (line, end) = rest.split_at(find(rest, LINE_END, 0));
-        self.rest = end.split_first().map_or(end, |(_, rest)| rest);
-        Some(line)
+        let end = find(text, LINE_END, start);
+        self.at = end + 1;
+        Some(&text[start..end])
     }
+}
+
+// One for a last line that lacks its end.
+fn unended(text: &[u8]) -> usize
+    ensures { result ≡ unended text.now }
+{
+    if text.is_empty() {
+        return 0;
+    }
+    usize::from(text[text.len() - 1] != LINE_END)
 }
 
 /// How many lines a text has.
@@ -51,5 +65,7 @@ pub fn count_lines(text: &[u8]) -> usize
     ensures value { result ≡ length (lines_of text.now) }
     ensures few { result ≤ length text.now }
 {
-    lines(text).count()
+    // By adding, which the compiler does by vectors, and not line by line.
+    let ended: usize = text.iter().map(|byte| usize::from(*byte == LINE_END)).sum();
+    ended + unended(text)
 }

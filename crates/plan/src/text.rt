@@ -63,6 +63,8 @@ impl<'a> Text<'a> {
     }
 
     // Writes what a reply prints. By `write!` it might fail, since no contract says when a `fmt` succeeds; here there is room.
+    // Inline, so that a reply is not stored to be read again: that takes longer than to write the words.
+    #[inline(always)]
     fn push_words(&mut self, reply: Reply)
         requires { (Short reply) × (used self.old + 8 ≤ length (held self.old)) }
         ensures { Appended self.old (words_of reply) self.new }
@@ -80,6 +82,7 @@ impl<'a> Text<'a> {
     }
 
     /// Writes the line that answers a call.
+    #[inline(always)]
     pub fn push_reply(&mut self, reply: Reply)
         requires { (Short reply) × (used self.old + 9 ≤ length (held self.old)) }
         ensures { Appended self.old (line_of reply) self.new }
