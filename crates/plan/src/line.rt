@@ -27,7 +27,7 @@ pub fn number(digits: &[u8]) -> Option<usize>
 }
 
 /// The two numbers after a line's letter.
-// Inline, since it has two callers and is most of what a line takes.
+// Inline, since the compiler keeps a function of two callers apart.
 #[inline(always)]
 pub fn ends(line: &[u8]) -> Option<(usize, usize)>
     ensures { Named line.now result }

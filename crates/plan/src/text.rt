@@ -63,7 +63,7 @@ impl<'a> Text<'a> {
     }
 
     // Writes what a reply prints. By `write!` it might fail, since no contract says when a `fmt` succeeds; here there is room.
-    // Inline, so that a reply is not stored to be read again: that takes longer than to write the words.
+    // Inline, so that a reply is not stored to be read again.
     #[inline(always)]
     fn push_words(&mut self, reply: Reply)
         requires { (Short reply) × (used self.old + 8 ≤ length (held self.old)) }
