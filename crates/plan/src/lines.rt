@@ -11,10 +11,13 @@ pub const LINE_END: u8 = b'\n';
 pub fn find(text: &[u8], byte: u8, from: usize) -> usize
     ensures { Found text.now byte from result }
 {
-    // By place: on short lines a `skip` takes longer than the search.
-    (from..text.len())
-        .find(|&place| text[place] == byte)
-        .unwrap_or(text.len().max(from))
+    // Place by place: on short lines a search through `skip`, or by `find` with a closure, takes longer.
+    for place in from..text.len() {
+        if text[place] == byte {
+            return place;
+        }
+    }
+    text.len().max(from)
 }
 
 /// The lines of a text one after the other, without their ends.
