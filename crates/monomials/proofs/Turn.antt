@@ -1,12 +1,17 @@
--- One turn of a loop that goes over the exponents from the last to the first.
+-- One turn of a loop that goes over the exponents.
 -- Assumes nothing.
-use Rattle.std.proofs.Common.{◌≡◌, ℕ, zero, suc, ◌+◌, ◌-◌, ◌<◌, ◌≤◌, List, [], ◌∷◌, ◌++◌, length, sum, sym, refl, ap, ◌∙◌, arith, length-append}
-use Rattle.std.proofs.lemmas.List.{append_assoc, append-nil}
+use Rattle.std.proofs.Common.{◌≡◌, ℕ, zero, suc, ◌+◌, ◌-◌, ◌<◌, ◌≤◌, List, [], ◌∷◌, ◌++◌, length, get_or, drop, sum, sym, refl, ap, ◌∙◌, arith, length-drop}
+use Rattle.std.proofs.lemmas.List.{drop_more, drop_all}
 use Rattle.std.proofs.lemmas.List.Sums.{sum_by-cons}
 use Rattle.monomials.specs.Choose.{choose}
 use Rattle.monomials.specs.Order.{degree, lower, rank_of}
 use Rattle.monomials.proofs.Binomials.{choose_most}
 use Rattle.monomials.proofs.Places.{placed}
+
+pub degree_drop : (i : ℕ) (xs : List ℕ) → degree (drop i xs) ≤ degree xs
+degree_drop zero xs = omega arith
+degree_drop (suc i) [] = omega arith
+degree_drop (suc i) (x ∷ xs) = omega (arith, degree_drop i xs)
 
 pub degree_append : (xs ys : List ℕ) → degree (xs ++ ys) ≡ degree xs + degree ys
 degree_append [] ys = omega arith
@@ -32,55 +37,26 @@ unfolding lower
 lower_none m zero h = refl
 lower_none m (suc t) h = absurd (omega arith)
 
--- the last of the exponents, from `later` on, have been added up; `rest` are those before them
-pub record Seen (xs rest : List ℕ) (later total place : ℕ) : Type 0 where
-  pub last : List ℕ
-  pub whole : rest ++ last ≡ xs
-  pub long : length last ≡ later
-  pub sum : degree last ≡ total
-  pub rank : rank_of last ≡ place
+-- the turn at i, where what stands from i on is left
+module _ (xs : List ℕ) (i : ℕ) (l : i < length xs) where
+  step : drop i xs ≡ get_or xs i 0 ∷ drop (i + 1) xs
+  step = drop_more xs i 0 l
 
-pub none_seen : (xs : List ℕ) → Seen xs xs 0 0 0
-unfolding rank_of
-none_seen xs = record { last = []; whole = append-nil xs; long = refl; sum = refl; rank = refl }
+  pub degree_step : degree (drop i xs) ≡ get_or xs i 0 + degree (drop (i + 1) xs)
+  degree_step = ap degree step
 
-pub all_seen : {xs rest : List ℕ} {later total place : ℕ} → length rest ≡ 0 → Seen xs rest later total place → rank_of xs ≡ place
-all_seen {rest = []} e s = ap rank_of (sym s.whole) ∙ s.rank
-all_seen {rest = x ∷ rest} e s = absurd (omega arith)
-
--- what has been seen is no more than all
-pub record AtMost (xs : List ℕ) (later total place : ℕ) : Type 0 where
-  pub long : later ≤ length xs
-  pub sum : total ≤ degree xs
-  pub rank : place ≤ rank_of xs
-
-rank_last : (rest last : List ℕ) → rank_of last ≤ rank_of (rest ++ last)
-unfolding rank_of
-rank_last [] last = omega arith
-rank_last (x ∷ rest) last = omega (arith, rank_last rest last)
-
-pub seen_most : {xs rest : List ℕ} {later total place : ℕ} → Seen xs rest later total place → AtMost xs later total place
-seen_most {rest = rest} s = record {
-  long = omega (arith, length-append rest s.last, ap length s.whole, s.long);
-  sum = omega (arith, degree_append rest s.last, ap degree s.whole, s.sum);
-  rank = omega (arith, rank_last rest s.last, ap rank_of s.whole, s.rank);
-}
-
--- one exponent x more, at the index i from the back
-module _ {xs before rest : List ℕ} {i later next x y total place : ℕ} (step : before ≡ rest ++ y ∷ []) (at : i ≡ later) (more : next ≡ later + 1) (is : x ≡ y)
-    (s : Seen xs before later total place) where
-  pub next_seen : {lowers : ℕ} → lowers ≡ lower (i + 1) (total + x) → Seen xs rest next (total + x) (place + lowers)
+  pub rank_step : rank_of (drop i xs) ≡ lower (length xs - i) (degree (drop i xs)) + rank_of (drop (i + 1) xs)
   unfolding rank_of
-  next_seen added =
-      let degrees : x + degree s.last ≡ total + x = omega (arith, s.sum) in
-      let longer : suc (length s.last) ≡ i + 1 = omega (arith, s.long) in
-      record {
-        last = x ∷ s.last;
-        whole = sym (append_assoc rest (x ∷ []) s.last) ∙ ap (λ (z : ℕ). (rest ++ z ∷ []) ++ s.last) is ∙ ap (λ (b : List ℕ). b ++ s.last) (sym step) ∙ s.whole;
-        long = omega (arith, longer);
-        sum = degrees;
-        rank = omega (arith, s.rank, added, ap (λ (n : ℕ). lower n (x + degree s.last)) longer, ap (lower (i + 1)) degrees);
-      }
+  rank_step =
+      let len : suc (length (drop (i + 1) xs)) ≡ length xs - i = omega (arith, length-drop (i + 1) xs) in
+      ap rank_of step
+      ∙ ap (λ (m : ℕ). lower m (get_or xs i 0 + degree (drop (i + 1) xs)) + rank_of (drop (i + 1) xs)) len
+      ∙ ap (λ (d : ℕ). lower (length xs - i) d + rank_of (drop (i + 1) xs)) (sym degree_step)
+
+-- nothing is left past the end
+pub rank_past : (xs : List ℕ) (i : ℕ) → i ≡ length xs → rank_of (drop i xs) ≡ 0
+unfolding rank_of
+rank_past xs i e = ap rank_of (drop_all i xs (omega arith))
 
 -- a place is below a count of more variables and a higher degree
 pub rank_below : (xs : List ℕ) (n e : ℕ) → length xs ≤ n → degree xs ≤ e → rank_of xs < choose (n + e) n

@@ -102,18 +102,17 @@ impl Monomials {
         })
     }
 
-    // The place of one of them. From the last exponent to the first: each variable adds the monomials of a lower degree in
-    // it and those after it.
+    // The place of one of them. Each variable adds the monomials of a lower degree in it and those after it.
     fn place_of(self, exponents: &[u8]) -> usize
         requires variables { length exponents.now ≤ self.variables }
         requires degree { degree_of exponents.now ≤ self.degree }
         ensures { result ≡ rank_of exponents.now }
     {
-        let mut total: usize = 0;
+        let mut left = degree_of(exponents);
         let mut place: usize = 0;
-        for (later, x) in exponents.iter().rev().enumerate() {
-            total += usize::from(*x);
-            place += self.fewer(later + 1, total);
+        for (i, x) in exponents.iter().enumerate() {
+            place += self.fewer(exponents.len() - i, left);
+            left -= usize::from(*x);
         }
         place
     }
